@@ -11,9 +11,9 @@ use Rattle.topology.specs.Net.{Net}
 use Rattle.path_vector.specs.Rules.{Rules}
 use Rattle.chronicle.specs.declared.events.Event.{Event}
 use Rattle.node_core.specs.NodeLimits.{Reached}
-use Rattle.world_core.specs.Limits.{StopsAt}
-use Rattle.world_core.specs.declared.outcomes.Stop.{Stop}
-use Rattle.world_core.specs.declared.outcomes.Stop.TheVariants as stop
+use Rattle.node_core.specs.NodeLimits.{StopsAt}
+use Rattle.node_core.specs.declared.outputs.Stop.{Stop}
+use Rattle.node_core.specs.declared.outputs.Stop.TheVariants as stop
 use Rattle.route_replay.specs.declared.ends.RunEnd.{RunEnd}
 use Rattle.route_replay.specs.declared.ends.RunEnd.TheVariants.{NoMemory, WriteFault, Limit}
 use Rattle.route_replay.specs.declared.tasks.Task.{Task}

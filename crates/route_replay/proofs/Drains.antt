@@ -10,11 +10,12 @@ use Rattle.topology.specs.declared.ways.Way.{Way}
 use Rattle.chronicle.specs.Deliveries.{next_delivery}
 use Rattle.chronicle.specs.Run.{run}
 use Rattle.node_core.specs.NodeLimits.{Reached}
-use Rattle.world_core.specs.Limits.{limit_of, StopsAt}
+use Rattle.node_core.specs.NodeLimits.{StopsAt}
+use Rattle.world_core.specs.Limits.{limit_of}
 use Rattle.world_core.specs.Stepping.{IsStep}
 use Rattle.world_core.specs.View.{WorldView, delivered}
-use Rattle.world_core.specs.declared.outcomes.Stop.{Stop}
-use Rattle.world_core.specs.declared.outcomes.Stop.TheVariants as stop
+use Rattle.node_core.specs.declared.outputs.Stop.{Stop}
+use Rattle.node_core.specs.declared.outputs.Stop.TheVariants as stop
 use Rattle.route_replay.specs.Text.{Course, Leads, unless, then_on, drained}
 use Rattle.route_replay.specs.Running.{StopsIn}
 

@@ -9,17 +9,11 @@ use Rattle.topology.specs.Net.{Net, linked, has_prefix, same_prefix}
 use Rattle.topology.specs.declared.building.BuildError.TheVariants as building
 use Rattle.topology.specs.declared.status.BadKind.TheVariants as bad
 use Rattle.topology.proofs.Tests.{and_both}
-use Rattle.schedule_file.specs.declared.lines.Directive.{Directive}
-use Rattle.schedule_file.specs.declared.lines.Instruction.{Instruction}
-use Rattle.schedule_file.specs.declared.lines.Instruction.TheVariants.{Origin, Single, Pair, Prefer, Propose, Control, Inject, Hop, Show, ShowEpoch}
-use Rattle.schedule_file.specs.declared.table.OriginVerb.TheVariants.{Originate}
-use Rattle.schedule_file.specs.declared.table.NodeEvent.TheVariants.{Snap}
-use Rattle.schedule_file.specs.declared.table.PairEvent.TheVariants.{Deliver}
-use Rattle.schedule_file.specs.declared.table.PlainView.TheVariants.{Rib}
-use Rattle.schedule_file.specs.declared.table.EpochView.TheVariants.{Cut}
+use Rattle.schedule_file.specs.declared.directives.Directive.{Directive}
+use Rattle.schedule_file.specs.declared.directives.Directive.TheVariants.{Originate, Withdraw, Probe, Prefer, Deliver, Fail, Restore, Notice, OpenSession, Flush, Snap, Crash, Restart, Propose, Control, Inject, Hop}
 use Rattle.schedule_file.specs.declared.lines.Numbered.{Numbered}
 use Rattle.schedule_file.specs.Lines.{DirectsInRange}
-use Rattle.schedule_file.specs.Grammar.{place_in, fault_from, origin_fault, directed_fault, directive_of, IsInstructed, AreInstructed}
+use Rattle.schedule_file.specs.Grammar.{place_in, fault_from, origin_fault, pair_fault, directed_fault, directive_of, IsDirected, AreDirected}
 use Rattle.route_replay.specs.Text.{task_of}
 use Rattle.route_replay.specs.Running.{Fitting, AllFitting}
 
@@ -71,34 +65,35 @@ module _ (net : Net) where
       let named = origin_named (has net.nodes node) (has_prefix net p) fine in
       and_both _ _ named.0 (inside p net.prefixes named.1)
 
-  joined : (a b : ℕ) → directed_fault net (Pair Deliver a b) ≡ None → linked net a b ≡ true
+  joined : (a b : ℕ) → pair_fault net a b ≡ None → linked net a b ≡ true
   joined a b fine = ends_linked a b (has net.nodes a) (has net.nodes b) (a == b) (linked net a b) fine
 
-  instruction_fits : (i : Instruction) → DirectsInRange i → directed_fault net i ≡ None → Fitting net (task_of (directive_of net i))
-  instruction_fits (Origin Originate node p) r fine = origin_fits node p fine
-  instruction_fits (Origin verb node p) r fine = origin_fits node p fine
-  instruction_fits (Single Snap node) r fine = node_named (has net.nodes node) fine
-  instruction_fits (Single event node) r fine = node_named (has net.nodes node) fine
-  instruction_fits (Pair Deliver a b) r fine = joined a b fine
-  instruction_fits (Pair event a b) r fine = joined a b fine
-  instruction_fits (Prefer node nbr value) r fine =
+  line_fits : (line : Directive Range) → DirectsInRange line → directed_fault net line ≡ None → Fitting net (task_of (directive_of net line))
+  line_fits (Originate node p) r fine = origin_fits node p fine
+  line_fits (Withdraw node p) r fine = origin_fits node p fine
+  line_fits (Probe node p) r fine = origin_fits node p fine
+  line_fits (Snap node) r fine = node_named (has net.nodes node) fine
+  line_fits (Crash node) r fine = node_named (has net.nodes node) fine
+  line_fits (Restart node) r fine = node_named (has net.nodes node) fine
+  line_fits (Deliver a b) r fine = joined a b fine
+  line_fits (Fail a b) r fine = joined a b fine
+  line_fits (Restore a b) r fine = joined a b fine
+  line_fits (Notice a b) r fine = joined a b fine
+  line_fits (OpenSession a b) r fine = joined a b fine
+  line_fits (Flush a b) r fine = joined a b fine
+  line_fits (Prefer node nbr value) r fine =
       and_both _ _ (near_linked (has net.nodes node) (has net.nodes nbr) (linked net node nbr) fine) (small value _ r.2)
-  instruction_fits (Propose node epoch) r fine =
+  line_fits (Propose node epoch) r fine =
       and_both _ _ (node_named (has net.nodes node) fine) (and_both _ _ (small 1 epoch r.1) (small epoch _ r.2))
-  instruction_fits (Control number) r fine = and_both _ _ (small 1 number r.0) (small number _ r.1)
-  instruction_fits (Inject packet node p) r fine = and_both _ _ (small 1 packet r.0) (origin_fits node p fine)
-  instruction_fits (Hop packet None) r fine = small 1 packet r.0
-  instruction_fits (Hop packet (Some times)) r fine = small 1 packet r.0
-  instruction_fits (Show Rib) r fine = tt
-  instruction_fits (Show view) r fine = tt
-  instruction_fits (ShowEpoch Cut epoch) r fine = tt
-  instruction_fits (ShowEpoch view epoch) r fine = tt
-  instruction_fits i r fine = tt
+  line_fits (Control number) r fine = and_both _ _ (small 1 number r.0) (small number _ r.1)
+  line_fits (Inject packet node p) r fine = and_both _ _ (small 1 packet r.0) (origin_fits node p fine)
+  line_fits (Hop packet None) r fine = small 1 packet r.0
+  line_fits (Hop packet (Some times)) r fine = small 1 packet r.0
+  line_fits line r fine = tt
 
-  directive_fits : (d : Directive) → IsInstructed net d → Fitting net (task_of d)
-  directive_fits d f =
-      subst (λ (one : Directive). Fitting net (task_of one)) (sym f.same) (instruction_fits f.instruction f.in_range f.named)
+  directive_fits : (d : Directive ℕ) → IsDirected net d → Fitting net (task_of d)
+  directive_fits d f = subst (λ (one : Directive ℕ). Fitting net (task_of one)) (sym f.same) (line_fits f.line f.in_range f.named)
 
-  -- each directive that follows from an instruction fits
-  pub all_fit : (ds : List Numbered) → AreInstructed net ds → AllFitting net ds
+  -- each directive of a line fits
+  pub all_fit : (ds : List Numbered) → AreDirected net ds → AllFitting net ds
   all_fit ds all = λ k d at. directive_fits _ (all k d at)

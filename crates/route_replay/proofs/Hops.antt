@@ -12,11 +12,12 @@ use Rattle.chronicle.specs.Steps.{Step, Idle, Goes}
 use Rattle.chronicle.specs.Walks.{ending}
 use Rattle.node_core.specs.NodeLimits.{Reached}
 use Rattle.world_core.specs.Effects.{Tells}
-use Rattle.world_core.specs.Limits.{limit_of, StopsAt}
+use Rattle.node_core.specs.NodeLimits.{StopsAt}
+use Rattle.world_core.specs.Limits.{limit_of}
 use Rattle.world_core.specs.declared.outcomes.Effect.{Effect}
 use Rattle.world_core.specs.declared.outcomes.Outcome.TheVariants as outcome
-use Rattle.world_core.specs.declared.outcomes.Stop.{Stop}
-use Rattle.world_core.specs.declared.outcomes.Stop.TheVariants as stop
+use Rattle.node_core.specs.declared.outputs.Stop.{Stop}
+use Rattle.node_core.specs.declared.outputs.Stop.TheVariants as stop
 use Rattle.route_replay.specs.Text.{Course, Leads, unless, with_event, then_on, is_idle, hopped}
 use Rattle.route_replay.specs.Running.{StopsIn}
 

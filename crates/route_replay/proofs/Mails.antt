@@ -13,9 +13,10 @@ use Rattle.chronicle.specs.Deliveries.{is_next, next_mail}
 use Rattle.chronicle.specs.Run.{run}
 use Rattle.node_core.specs.NodeLimits.{Reached}
 use Rattle.topology.specs.declared.limits.TheConstants.{HIGHEST_MESSAGE, MOST_CONTROL}
-use Rattle.world_core.specs.Limits.{limit_of, StopsAt}
-use Rattle.world_core.specs.declared.outcomes.Stop.{Stop}
-use Rattle.world_core.specs.declared.outcomes.Stop.TheVariants as stop
+use Rattle.node_core.specs.NodeLimits.{StopsAt}
+use Rattle.world_core.specs.Limits.{limit_of}
+use Rattle.node_core.specs.declared.outputs.Stop.{Stop}
+use Rattle.node_core.specs.declared.outputs.Stop.TheVariants as stop
 use Rattle.route_replay.specs.Text.{Course, Leads, unless, then_on, controlled}
 use Rattle.route_replay.specs.Running.{StopsIn}
 

@@ -4,8 +4,8 @@ use Rattle.std.proofs.lemmas.Grind.{common_steps}
 use Rattle.std.specs.List.{range_with_len, flat_map}
 use Rattle.std.proofs.lemmas.List.{flat_map_more}
 use Rattle.std.proofs.lemmas.List.FromFn.{map-range_with_len_more, get_or-map-range_with_len, length-map-range_with_len}
-use Rattle.schedule_file.specs.declared.lines.Directive.{Directive}
-use Rattle.schedule_file.specs.declared.lines.Directive.TheVariants.{Originate, Inject, Hop, Drain}
+use Rattle.schedule_file.specs.declared.directives.Directive.{Directive}
+use Rattle.schedule_file.specs.declared.directives.Directive.TheVariants.{Originate, Inject, Hop, Drain}
 use Rattle.route_replay.specs.Draws.{next, state_after, given_below, drawn}
 use Rattle.route_replay.specs.LoadNetwork.{first_provider, first_providers}
 use Rattle.route_replay.specs.LoadSchedule.{announcement, announcements, announcer, cut_off_node, entrance, epoch_lines, failing_lines, further_epoch, further_epochs, load_directives, packet_lines, packets_lines}
@@ -35,7 +35,7 @@ announcement_step number n state got is was =
 
 -- packets
 
-pub no_packets : (number : ℕ) (lines : List Directive) → lines ≡ lines ++ packets_lines number 0
+pub no_packets : (number : ℕ) (lines : List (Directive ℕ)) → lines ≡ lines ++ packets_lines number 0
 unfolding packets_lines
 no_packets number lines = grind (arith, common_steps)
 
@@ -48,7 +48,7 @@ unfolding packets_lines
 packets_more number n k e =
     flat_map_more (packet_lines number) [] (range_with_len 1 n) k ∙ ap (flat_map (packet_lines number)) (sym (range_more 1 n k e))
 
-pub packet_step : (number n state got : ℕ) (lines : List Directive) → state ≡ state_after number (57 + n) → got ≡ given_below 24 (next state)
+pub packet_step : (number n state got : ℕ) (lines : List (Directive ℕ)) → state ≡ state_after number (57 + n) → got ≡ given_below 24 (next state)
     → (lines ++ packets_lines number n) ++ Inject (n + 1) (got + 1) n ∷ Hop (n + 1) (Some 200) ∷ [] ≡ lines ++ packets_lines number (n + 1)
 packet_step number n state got lines is was =
     let place : n ≡ n + 1 - 1 = omega arith in
@@ -59,7 +59,7 @@ packet_step number n state got lines is was =
 
 -- epochs
 
-pub no_epochs : (number : ℕ) (lines : List Directive) → lines ≡ lines ++ further_epochs number 0
+pub no_epochs : (number : ℕ) (lines : List (Directive ℕ)) → lines ≡ lines ++ further_epochs number 0
 unfolding further_epochs
 no_epochs number lines = grind (arith, common_steps)
 
@@ -77,7 +77,7 @@ unfolding further_epochs
 epochs_more number n r e =
     flat_map_more (further_epoch number) [] (range_with_len 2 n) r ∙ ap (flat_map (further_epoch number)) (sym (range_more 2 n r e))
 
-pub epoch_step : (number n state place provider node : ℕ) (lines : List Directive) {providers : List ℕ} → providers ≡ first_providers number 21
+pub epoch_step : (number n state place provider node : ℕ) (lines : List (Directive ℕ)) {providers : List ℕ} → providers ≡ first_providers number 21
     → state ≡ state_after number (54 + n) → place ≡ given_below 21 (next state) → place < 21 → provider ≡ get_or providers place provider → node ≡ place + 4
     → (lines ++ further_epochs number n) ++ failing_lines provider node (n + 2) ≡ lines ++ further_epochs number (n + 1)
 epoch_step number n state place provider node lines {providers} made is was few found at =
@@ -93,7 +93,7 @@ unfolding first_providers
 many_providers number providers made = ap (λ (l : List ℕ). length l) made ∙ length-map-range_with_len (first_provider number) 4 21
 
 -- all lines, put together in these steps
-pub all_lines : (number : ℕ) (one two three four five : List Directive)
+pub all_lines : (number : ℕ) (one two three four five : List (Directive ℕ))
     → one ≡ announcements number 12 → two ≡ one ++ Drain 1000000 ∷ [] → three ≡ two ++ epoch_lines 1 1
     → four ≡ three ++ further_epochs number 3 → five ≡ four ++ packets_lines number 12 → five ≡ load_directives number
 unfolding load_directives announcements further_epochs packets_lines

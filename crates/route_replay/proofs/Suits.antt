@@ -10,11 +10,11 @@ use Rattle.topology.specs.Lists.{has}
 use Rattle.topology.specs.Net.{joins, linked}
 use Rattle.topology.proofs.Tests.{and_both, or_first, or_second, same_refl}
 use Rattle.topology.proofs.Neighbours.{linked_sym}
-use Rattle.schedule_file.specs.declared.lines.Directive.{Directive}
+use Rattle.schedule_file.specs.declared.directives.Directive.{Directive}
 use Rattle.route_replay.specs.Draws.{drawn, given_below}
 use Rattle.route_replay.specs.LoadNetwork.{drafted, first_provider, second_provider, links_among, links_below, load_net, load_prefix, provider_links, sells, top_links}
 use Rattle.route_replay.specs.LoadSchedule.{announcement, announcements, announcer, cut_off_node, entrance, epoch_lines, further_epoch, further_epochs, load_directives, packet_lines, packets_lines}
-use Rattle.schedule_file.specs.declared.lines.Directive.TheVariants.{Drain}
+use Rattle.schedule_file.specs.declared.directives.Directive.TheVariants.{Drain}
 use Rattle.route_replay.specs.Performing.{AllFit}
 use Rattle.route_replay.specs.Running.{Fitting}
 use Rattle.route_replay.specs.Text.{task_of}
@@ -121,24 +121,24 @@ packet_fits number k low high = (
 )
 
 -- the parts of a load fit, one after the other
-both_fit : (number : ℕ) (xs ys : List Directive) → AllFit (load_net number) xs → AllFit (load_net number) ys → AllFit (load_net number) (xs ++ ys)
-both_fit number xs ys h k = all_both (λ (d : Directive). Fitting (load_net number) (task_of d)) xs ys h k
+both_fit : (number : ℕ) (xs ys : List (Directive ℕ)) → AllFit (load_net number) xs → AllFit (load_net number) ys → AllFit (load_net number) (xs ++ ys)
+both_fit number xs ys h k = all_both (λ (d : Directive ℕ). Fitting (load_net number) (task_of d)) xs ys h k
 
 announcements_fit : (number : ℕ) → AllFit (load_net number) (announcements number 12)
 unfolding announcements
 announcements_fit number =
-    all_mapped (λ (d : Directive). Fitting (load_net number) (task_of d)) (announcement number) 0 12
+    all_mapped (λ (d : Directive ℕ). Fitting (load_net number) (task_of d)) (announcement number) 0 12
     (λ k low high. and_both _ _ (announcer_in number k) (prefix_in number k (omega (arith, high))))
 
 epochs_fit : (number : ℕ) → AllFit (load_net number) (further_epochs number 3)
 unfolding further_epochs
 epochs_fit number =
-    all_flat (λ (d : Directive). Fitting (load_net number) (task_of d)) (further_epoch number) 2 3 (λ r low high. further_fits number r low (omega (arith, high)))
+    all_flat (λ (d : Directive ℕ). Fitting (load_net number) (task_of d)) (further_epoch number) 2 3 (λ r low high. further_fits number r low (omega (arith, high)))
 
 packets_fit : (number : ℕ) → AllFit (load_net number) (packets_lines number 12)
 unfolding packets_lines
 packets_fit number =
-    all_flat (λ (d : Directive). Fitting (load_net number) (task_of d)) (packet_lines number) 1 12 (λ k low high. packet_fits number k low (omega (arith, high)))
+    all_flat (λ (d : Directive ℕ). Fitting (load_net number) (task_of d)) (packet_lines number) 1 12 (λ k low high. packet_fits number k low (omega (arith, high)))
 
 first_fits : (number : ℕ) → AllFit (load_net number) (Drain 1000000 ∷ epoch_lines 1 1)
 first_fits number = (tt, epoch_fits number 1 1 (omega arith) (omega arith) (omega arith) (omega arith))

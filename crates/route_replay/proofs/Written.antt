@@ -12,11 +12,11 @@ use Rattle.path_vector.specs.GaoRexford.{gao_rexford}
 use Rattle.chronicle.specs.declared.events.Event.{Event}
 use Rattle.world_core.specs.Throughout.{HoldsThroughout}
 use Rattle.node_core.specs.NodeLimits.{Reached}
-use Rattle.schedule_file.specs.declared.lines.Directive.{Directive}
+use Rattle.schedule_file.specs.declared.directives.Directive.{Directive}
 use Rattle.schedule_file.specs.declared.lines.Numbered.{Numbered}
 use Rattle.world_core.specs.View.{WorldView}
-use Rattle.world_core.specs.declared.outcomes.Stop.{Stop}
-use Rattle.world_core.specs.declared.outcomes.Stop.TheVariants as stop_kind
+use Rattle.node_core.specs.declared.outputs.Stop.{Stop}
+use Rattle.node_core.specs.declared.outputs.Stop.TheVariants as stop_kind
 use Rattle.route_replay.specs.Ends.{end_of}
 use Rattle.route_replay.specs.declared.ends.RunEnd.{RunEnd}
 use Rattle.route_replay.specs.declared.ends.RunEnd.TheVariants as end
@@ -161,7 +161,7 @@ runs_said rules old new lines sink sink' r done runs =
     (subst (λ text. Runs sink sink' text None r) (said_of rules old new lines done) runs)
 
 -- the run of what was made is that of the number
-pub load_runs : {T : Type 0} (number : ℕ) (net : Net) (directives : List Directive) (sink sink' : SinkView) (r : Result T RunEnd) → net ≡ load_net number → directives ≡ load_directives number
+pub load_runs : {T : Type 0} (number : ℕ) (net : Net) (directives : List (Directive ℕ)) (sink sink' : SinkView) (r : Result T RunEnd) → net ≡ load_net number → directives ≡ load_directives number
     → Runs sink sink' (counted gao_rexford net [] (unnumbered directives)) (stop gao_rexford net [] (unnumbered directives)) r → Runs sink sink' (load_text number) (load_stop number) r
 unfolding load_text load_stop load_lines
 load_runs number net directives sink sink' r is what runs = rw (is, what) at runs

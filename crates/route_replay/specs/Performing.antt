@@ -1,18 +1,18 @@
 -- What the loop of a load asks and leaves.
-use Rattle.std.specs.Prelude.{◌≡◌, Some, None, List}
+use Rattle.std.specs.Prelude.{ℕ, ◌≡◌, Some, None, List}
 use Rattle.std.specs.List.{AllByRecursion}
 use Rattle.topology.specs.Net.{Net}
 use Rattle.path_vector.specs.Rules.{Rules}
 use Rattle.world_core.specs.View.{WorldView}
-use Rattle.world_core.specs.declared.outcomes.Stop.{Stop}
-use Rattle.world_core.specs.declared.outcomes.Stop.TheVariants as stop
-use Rattle.schedule_file.specs.declared.lines.Directive.{Directive}
+use Rattle.schedule_file.specs.declared.directives.Directive.{Directive}
+use Rattle.node_core.specs.declared.outputs.Stop.{Stop}
+use Rattle.node_core.specs.declared.outputs.Stop.TheVariants as stop
 use Rattle.schedule_file.specs.declared.lines.Numbered.{Numbered}
 use Rattle.route_replay.specs.Running.{Fitting}
 use Rattle.route_replay.specs.Text.{events_of, stop, task_of}
 
 -- each of these directives fits the network
-abbrev pub AllFit : Net → List Directive → Type 0
+abbrev pub AllFit : Net → List (Directive ℕ) → Type 0
 AllFit net directives = AllByRecursion (λ d. Fitting net (task_of d)) directives
 
 -- the world is that of the same network and policy, its events are those of the lines, and no limit stops these

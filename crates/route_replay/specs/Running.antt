@@ -12,8 +12,8 @@ use Rattle.chronicle.specs.declared.events.Event.TheVariants as event
 use Rattle.world_core.specs.Fits.{fits}
 use Rattle.node_core.specs.NodeLimits.{Reached}
 use Rattle.world_core.specs.View.{WorldView}
-use Rattle.world_core.specs.declared.outcomes.Stop.{Stop}
-use Rattle.world_core.specs.declared.outcomes.Stop.TheVariants as stop
+use Rattle.node_core.specs.declared.outputs.Stop.{Stop}
+use Rattle.node_core.specs.declared.outputs.Stop.TheVariants as stop
 use Rattle.schedule_file.specs.declared.lines.Numbered.{Numbered}
 use Rattle.route_replay.specs.declared.ends.RunEnd.{RunEnd}
 use Rattle.route_replay.specs.declared.ends.RunEnd.TheVariants.{WriteFault, Limit}

@@ -12,8 +12,8 @@ use Rattle.chronicle.specs.Deliveries.{next_delivery, next_mail}
 use Rattle.chronicle.specs.Walks.{ending}
 use Rattle.node_core.specs.NodeLimits.{Reached}
 use Rattle.world_core.specs.Limits.{limit_of}
-use Rattle.schedule_file.specs.declared.lines.Directive.{Directive}
-use Rattle.schedule_file.specs.declared.lines.Directive.TheVariants.{Originate, Withdraw, Probe, Prefer, Deliver, Fail, Restore, Notice, OpenSession, Flush, Snap, Propose, Control, Crash, Restart, Drain, ControlAll, ShowRib, ShowLog, ShowControl, ShowCut, ShowClosure, ShowTables, Inject, Hop, ShowWalk}
+use Rattle.schedule_file.specs.declared.directives.Directive.{Directive}
+use Rattle.schedule_file.specs.declared.directives.Directive.TheVariants.{Originate, Withdraw, Probe, Prefer, Deliver, Fail, Restore, Notice, OpenSession, Flush, Snap, Propose, Control, Crash, Restart, Drain, ControlAll, ShowRib, ShowLog, ShowControl, ShowCut, ShowClosure, ShowTables, Inject, Hop, ShowWalk}
 use Rattle.schedule_file.specs.declared.lines.Numbered.{Numbered}
 use Rattle.route_replay.specs.declared.tasks.Task.{Task}
 use Rattle.route_replay.specs.declared.tasks.Task.TheVariants as task
@@ -88,7 +88,7 @@ hops_of k None = task.Event (event.Hop k)
 hops_of k (Some times) = task.Hops k times
 
 -- what a directive asks for
-abbrev pub task_of : Directive → Task
+abbrev pub task_of : Directive ℕ → Task
 task_of (Originate node prefix) = task.Event (event.Originate node prefix)
 task_of (Withdraw node prefix) = task.Event (event.Withdraw node prefix)
 task_of (Prefer node nbr value) = task.Event (event.Prefer node nbr value)

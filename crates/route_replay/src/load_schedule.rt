@@ -1,6 +1,6 @@
 //! What happens in a load.
 ghost use Rattle.std.specs.Prelude.{◌≡◌, ◌++◌, ◌∷◌, [], ℕ, Some, length, IfOk, OnOk};
-ghost use Rattle.schedule_file.specs.declared.lines.Directive.TheVariants as line;
+ghost use Rattle.schedule_file.specs.declared.directives.Directive.TheVariants as line;
 ghost use Rattle.route_replay.specs.Draws.{state_after};
 ghost use Rattle.route_replay.specs.LoadNetwork.{first_providers, load_net};
 ghost use Rattle.route_replay.specs.LoadSchedule.{announcements, epoch_lines, failing_lines, further_epochs, load_directives, packets_lines};

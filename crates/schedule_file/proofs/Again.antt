@@ -14,22 +14,21 @@ use Rattle.topology.specs.Net.{Net, has_prefix, same_prefix, IsValid}
 use Rattle.topology.proofs.Tests.{and_left, and_right, same_is}
 use Rattle.schedule_file.specs.declared.lines.Line.{Line}
 use Rattle.schedule_file.specs.declared.lines.Line.TheVariants.{Begin, Directs}
-use Rattle.schedule_file.specs.declared.lines.Instruction.{Instruction}
-use Rattle.schedule_file.specs.declared.lines.Instruction.TheVariants.{Origin, Single, Pair, Inject, Show, ShowEpoch}
+use Rattle.schedule_file.specs.declared.directives.Directive.{Directive}
+use Rattle.schedule_file.specs.declared.directives.Directive.TheVariants.{Originate}
+use Rattle.schedule_file.specs.declared.directives.Rest.{Rest}
+use Rattle.schedule_file.specs.declared.directives.Rest.TheVariants.{Origin, Inject}
 use Rattle.schedule_file.specs.declared.lines.Numbered.{Numbered}
 use Rattle.schedule_file.specs.declared.lines.Schedule.{Schedule}
-use Rattle.schedule_file.specs.declared.table.OriginVerb.TheVariants.{Originate}
-use Rattle.schedule_file.specs.declared.table.NodeEvent.TheVariants.{Snap}
-use Rattle.schedule_file.specs.declared.table.PairEvent.TheVariants.{Deliver}
-use Rattle.schedule_file.specs.declared.table.PlainView.TheVariants as plain
-use Rattle.schedule_file.specs.declared.table.EpochView.TheVariants.{Cut}
 use Rattle.schedule_file.specs.declared.table.Part.TheVariants.{Network, Run}
 use Rattle.schedule_file.specs.Spelling.{words_by_line}
-use Rattle.schedule_file.specs.Table.{may_declare, may_direct, prefix_at, instruction_of}
+use Rattle.schedule_file.specs.Directives.{first_word, rest_of, directive_by, with_name, renamed}
+use Rattle.schedule_file.specs.Table.{may_declare, may_direct}
 use Rattle.schedule_file.specs.Lines.{InRange, DirectsInRange}
-use Rattle.schedule_file.specs.Grammar.{net_of, begun, directives_of, directive_of, directed_fault, origin_fault, place_in, allowed, Reads, IsFile, IsInstructed, AreInstructed}
-use Rattle.schedule_file.specs.Printing.{node_line, link_line, prefix_line, pref_line, hold_line, packet_lines, sorted_preferences, sorted_holds, directive_line, network_lines, printed_lines, printed, SameNet, unnumbered, IsSame, IsFileAgain}
+use Rattle.schedule_file.specs.Grammar.{net_of, begun, directives_of, directive_of, rest_fault, directed_fault, origin_fault, place_in, allowed, Reads, IsFile, IsDirected, AreDirected}
+use Rattle.schedule_file.specs.Printing.{node_line, link_line, prefix_line, pref_line, hold_line, packet_lines, sorted_preferences, sorted_holds, prefix_at, prefixed, directive_line, network_lines, printed_lines, printed, SameNet, unnumbered, IsSame, IsFileAgain}
 use Rattle.schedule_file.specs.Refusals.{FirstBad}
+use Rattle.schedule_file.proofs.Spellings.{spelled_again}
 use Rattle.schedule_file.proofs.Steps.{allowed_from}
 use Rattle.schedule_file.proofs.Readings.{same_lines, none_first}
 use Rattle.schedule_file.proofs.Following.{file_follows}
@@ -69,34 +68,31 @@ prefix_found net node p e = ap (λ o. unwrap_or o (record { bits = 0; len = 0 })
           | false ↦ λ k. absurd (none-some bad.UnknownNode (sym k))
         ]) e
 
--- the instruction of a directive is the one that it came from
-same_instruction : (net : Net) (i : Instruction) → directed_fault net i ≡ None → instruction_of net (directive_of net i) ≡ i
-same_instruction net (Origin Originate node p) e = ap (λ q. Origin Originate node q) (prefix_found net node p e)
-same_instruction net (Origin verb node p) e = ap (λ q. Origin verb node q) (prefix_found net node p e)
-same_instruction net (Single Snap node) e = refl
-same_instruction net (Single event node) e = refl
-same_instruction net (Pair Deliver a b) e = refl
-same_instruction net (Pair event a b) e = refl
-same_instruction net (Inject packet node p) e = ap (λ q. Inject packet node q) (prefix_found net node p e)
-same_instruction net (Show plain.Rib) e = refl
-same_instruction net (Show view) e = refl
-same_instruction net (ShowEpoch Cut epoch) e = refl
-same_instruction net (ShowEpoch view epoch) e = refl
-same_instruction net i e = refl
+-- one change of the name after another
+renamed_twice : {P Q R : Type 0} (f : P → Q) (g : Q → R) (d : Directive P) → renamed g (renamed f d) ≡ renamed (λ p. g (f p)) d
+renamed_twice f g (Originate node p) = refl
+renamed_twice f g d = refl
 
--- preferences do not matter for the names of an instruction
+same_rest : (net : Net) (r : Rest Range) → rest_fault net r ≡ None → with_name (λ p. prefix_at net (place_in p net.prefixes)) r ≡ r
+same_rest net (Origin node p) e = ap (λ q. Origin node q) (prefix_found net node p e)
+same_rest net (Inject packet node p) e = ap (λ q. Inject packet node q) (prefix_found net node p e)
+same_rest net r e = refl
+
+-- the line of a directive is the one that it came from
+same_line : (net : Net) (line : Directive Range) → directed_fault net line ≡ None → prefixed net (directive_of net line) ≡ line
+same_line net line e =
+    renamed_twice (λ p. place_in p net.prefixes) (prefix_at net) line ∙ ap (directive_by (first_word line)) (same_rest net (rest_of line) e)
+    ∙ spelled_again line
+
+-- preferences do not matter for the names of a directive
 
 module _ (net : Net) (valid : IsValid net) where
   abbrev final : Net
   final = with_packets net valid
 
-  same_fault : (i : Instruction) → directed_fault final i ≡ directed_fault net i
-  same_fault (Origin verb node p) = refl
-  same_fault i = refl
-
-  same_directive : (i : Instruction) → directive_of final i ≡ directive_of net i
-  same_directive (Origin verb node p) = refl
-  same_directive i = refl
+  rest_same : (r : Rest Range) → rest_fault final r ≡ rest_fault net r
+  rest_same (Origin node p) = refl
+  rest_same r = refl
 
   -- after begin: the whole network, and the directives so far
   record Behind (front : List Numbered) (e : List Line) : Type 0 where
@@ -104,21 +100,21 @@ module _ (net : Net) (valid : IsValid net) where
     late : begun e ≡ true
     directed : unnumbered (directives_of e) ≡ unnumbered front
 
-  each_follows : (all : List Numbered) → AreInstructed net all → (front : List Numbered) (d : Numbered) (back : List Numbered) → front ++ d ∷ back ≡ all → IsInstructed net d.directive
-  each_follows all follow front d back same = in_front front d back (subst (AreInstructed net) (sym same) follow)
+  each_follows : (all : List Numbered) → AreDirected net all → (front : List Numbered) (d : Numbered) (back : List Numbered) → front ++ d ∷ back ≡ all → IsDirected net d.directive
+  each_follows all follow front d back same = in_front front d back (subst (AreDirected net) (sym same) follow)
     where
-      in_front : (front : List Numbered) (d : Numbered) (back : List Numbered) → AreInstructed net (front ++ d ∷ back) → IsInstructed net d.directive
-      in_front [] d back h = All-head (λ (d : Numbered). IsInstructed net d.directive) d back h
-      in_front (x ∷ front) d back h = in_front front d back (All-tail (λ (d : Numbered). IsInstructed net d.directive) x (front ++ d ∷ back) h)
+      in_front : (front : List Numbered) (d : Numbered) (back : List Numbered) → AreDirected net (front ++ d ∷ back) → IsDirected net d.directive
+      in_front [] d back h = All-head (λ (d : Numbered). IsDirected net d.directive) d back h
+      in_front (x ∷ front) d back h = in_front front d back (All-tail (λ (d : Numbered). IsDirected net d.directive) x (front ++ d ∷ back) h)
 
-  instruction_next : (i : Instruction) (d : Numbered) (front : List Numbered) (e : List Line) → d.directive ≡ directive_of net i → DirectsInRange i → directed_fault net i ≡ None → Behind front e → InRange (Directs i) × IsTrue (allowed Run e (Directs i)) × Behind (front ++ d ∷ []) (Directs i ∷ e)
-  instruction_next i d front e same range fine b =
+  line_next : (line : Directive Range) (d : Numbered) (front : List Numbered) (e : List Line) → d.directive ≡ directive_of net line → DirectsInRange line → directed_fault net line ≡ None → Behind front e → InRange (Directs line) × IsTrue (allowed Run e (Directs line)) × Behind (front ++ d ∷ []) (Directs line ∷ e)
+  line_next line d front e same range fine b =
       let stands = ap (λ b. may_direct (if b then Run else Network)) b.late in
-      let last : Numbered = record { line = suc (length e); directive = directive_of (net_of e) i } in
-      let names = ap (λ n. directed_fault n i) b.whole ∙ same_fault i ∙ fine in
-      let says : directive_of (net_of e) i ≡ d.directive = ap (λ n. directive_of n i) b.whole ∙ same_directive i ∙ sym same in (
+      let last : Numbered = record { line = suc (length e); directive = directive_of (net_of e) line } in
+      let names = ap (λ n. directed_fault n line) b.whole ∙ rest_same (rest_of line) ∙ fine in
+      let says : directive_of (net_of e) line ≡ d.directive = ap (λ n. directive_of n line) b.whole ∙ sym same in (
         range,
-        allowed_from Run e (Directs i) stands names,
+        allowed_from Run e (Directs line) stands names,
         record {
           whole = b.whole;
           late = b.late;
@@ -126,13 +122,13 @@ module _ (net : Net) (valid : IsValid net) where
         },
       )
 
-  directive_next : (all : List Numbered) → AreInstructed net all → (front : List Numbered) (d : Numbered) (back : List Numbered) (e : List Line) → front ++ d ∷ back ≡ all → Behind front e → InRange (directive_line net d) × IsTrue (allowed Run e (directive_line net d)) × Behind (front ++ d ∷ []) (directive_line net d ∷ e)
+  directive_next : (all : List Numbered) → AreDirected net all → (front : List Numbered) (d : Numbered) (back : List Numbered) (e : List Line) → front ++ d ∷ back ≡ all → Behind front e → InRange (directive_line net d) × IsTrue (allowed Run e (directive_line net d)) × Behind (front ++ d ∷ []) (directive_line net d ∷ e)
   directive_next all follow front d back e same b =
       let f = each_follows all follow front d back same in
-      let is : instruction_of net d.directive ≡ f.instruction = ap (instruction_of net) f.same ∙ same_instruction net f.instruction f.named in
-      subst (λ i. InRange (Directs i) × IsTrue (allowed Run e (Directs i)) × Behind (front ++ d ∷ []) (Directs i ∷ e)) (sym is) (instruction_next f.instruction d front e f.same f.in_range f.named b)
+      let is : prefixed net d.directive ≡ f.line = ap (prefixed net) f.same ∙ same_line net f.line f.named in
+      subst (λ l. InRange (Directs l) × IsTrue (allowed Run e (Directs l)) × Behind (front ++ d ∷ []) (Directs l ∷ e)) (sym is) (line_next f.line d front e f.same f.in_range f.named b)
 
-  directives_come : (all : List Numbered) → AreInstructed net all → (e : List Line) → Behind [] e → Reaches e (map (directive_line net) all) (Behind all)
+  directives_come : (all : List Numbered) → AreDirected net all → (e : List Line) → Behind [] e → Reaches e (map (directive_line net) all) (Behind all)
   directives_come all follow e b = section (directive_line net) Behind all (directive_next all follow) e b
 
   begin_comes : (e : List Line) → At final e → Reaches e (Begin ∷ []) (Behind [])
@@ -144,7 +140,7 @@ module _ (net : Net) (valid : IsValid net) where
       }
 
   -- one section after another
-  all_come : Described net → (all : List Numbered) → AreInstructed net all → Reaches [] (printed_lines net all) (Behind all)
+  all_come : Described net → (all : List Numbered) → AreDirected net all → Reaches [] (printed_lines net all) (Behind all)
   all_come d all follow =
       let start : At (with_nodes net []) [] = record { stands_for = refl; early = refl; none = refl } in
       let nodes = nodes_come net valid d.in_order [] start in

@@ -9,7 +9,7 @@ use Rattle.schedule_file.specs.declared.parser.ParseEnd.{ParseEnd}
 use Rattle.schedule_file.specs.declared.parser.ParseEnd.TheVariants.{NoMemory, Bad}
 use Rattle.schedule_file.specs.declared.table.Part.{Part}
 use Rattle.schedule_file.specs.Spelling.{words_by_line}
-use Rattle.schedule_file.specs.Grammar.{ReadsIn, IsRead, IsFile, AreInstructed}
+use Rattle.schedule_file.specs.Grammar.{ReadsIn, IsRead, IsFile, AreDirected}
 use Rattle.schedule_file.specs.Refusals.{FirstBadIn}
 use Rattle.schedule_file.specs.Ends.{SaysWhy, IsWantOfMemory, IsBadOrMemory}
 use Rattle.schedule_file.proofs.Readings.{none_first, one_first_in}
@@ -34,7 +34,7 @@ named behind text (Ok schedule) line kind ok says first = none_first behind text
 named behind text (Err why) line kind ok says first = first_named Schedule behind text why line kind says first
 
 -- the directives name only what the network has
-pub follows : (text : List ℕ) (result : Result Schedule ParseEnd) → IfOk result (IsFile text) → IfOk result (λ schedule. AreInstructed schedule.topology schedule.lines.items)
+pub follows : (text : List ℕ) (result : Result Schedule ParseEnd) → IfOk result (IsFile text) → IfOk result (λ schedule. AreDirected schedule.topology schedule.lines.items)
 follows text (Ok schedule) ok = file_follows text schedule ok
 follows text (Err why) ok = tt
 

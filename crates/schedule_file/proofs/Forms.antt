@@ -12,7 +12,7 @@ use Rattle.schedule_file.specs.Table.{keyword_in, fields, first_fault}
 use Rattle.schedule_file.specs.Refusals.{form_fault, fault_by, word_fault, line_by, line_from, line_of}
 use Rattle.schedule_file.specs.Lines.{Spells}
 use Rattle.schedule_file.specs.Grammar.{stands}
-use Rattle.schedule_file.specs.Standing.{Holds, ReadsAs}
+use Rattle.schedule_file.specs.Standing.{Holds, ReadsFrom}
 use Rattle.schedule_file.proofs.Shapes.{found}
 
 -- the words have a first one, with all that was read of them
@@ -55,14 +55,14 @@ fields_first words all part fault k h ready decides =
     ∙ ap (λ form. option_or form (first_fault (fields k f.rest) f.rest)) (ready.good words.first.now f.rest f.held)
     ∙ decides words.first.now f.rest f.held
 
-line_first : (words : Words) (all : List (List ℕ)) (part : Part) (k : Keyword) (line : Line) → Holds words all → Ready words part k → ((word : List ℕ) (rest : List (List ℕ)) → Holds words (word ∷ rest) → line ≡ line_by k rest) → line ≡ line_of all
+line_first : (words : Words) (all : List (List ℕ)) (part : Part) (k : Keyword) (line : Line) → Holds words all → Ready words part k → ((word : List ℕ) (rest : List (List ℕ)) → Holds words (word ∷ rest) → line ≡ line_by k word rest) → line ≡ line_of all
 line_first words all part k line h ready is =
     let f = has_first words all h ready.some in
-    is words.first.now f.rest f.held ∙ sym (ap line_of f.are ∙ ap (λ found. line_from found f.rest) ready.named)
+    is words.first.now f.rest f.held ∙ sym (ap line_of f.are ∙ ap (λ found. line_from found words.first.now f.rest) ready.named)
 
 -- the reader's answer for a keyword is the answer for the whole line
 abbrev Answer : Words → Keyword → Result Line BadKind → Type 0
-Answer words k result = (word : List ℕ) (rest : List (List ℕ)) → Holds words (word ∷ rest) → ReadsAs k rest result
+Answer words k result = (word : List ℕ) (rest : List (List ℕ)) → Holds words (word ∷ rest) → ReadsFrom k word rest result
 
 pub reads_line : (words : Words) (part : Part) (k : Keyword) (result : Result Line BadKind) → Ready words part k → Answer words k result → IfOk result (λ line. (all : List (List ℕ)) → Holds words all → Spells all line)
 reads_line words part k (Ok line) ready reads = λ all held.

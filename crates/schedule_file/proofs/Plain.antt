@@ -23,20 +23,20 @@ use Rattle.schedule_file.specs.declared.lines.Line.{Line}
 use Rattle.schedule_file.specs.declared.lines.Line.TheVariants.{Blank, Begin, Declares, Directs}
 use Rattle.schedule_file.specs.declared.lines.Declaration.{Declaration}
 use Rattle.schedule_file.specs.declared.lines.Declaration.TheVariants.{Node, Link, Pref, Hold, Prefix, Hops, Transient}
-use Rattle.schedule_file.specs.declared.lines.Instruction.{Instruction}
-use Rattle.schedule_file.specs.declared.lines.Instruction.TheVariants.{Origin, Single, Pair, Prefer, Propose, Drain, Control, ControlAll, Inject, Hop, Show, ShowEpoch, ShowWalk}
+use Rattle.schedule_file.specs.declared.directives.Directive.{Directive}
+use Rattle.schedule_file.specs.declared.directives.Directive.TheVariants.{Originate}
+use Rattle.schedule_file.specs.declared.directives.Rest.{Rest}
+use Rattle.schedule_file.specs.declared.directives.Rest.TheVariants.{Origin, Single, Pair, Prefer, Propose, Drain, Control, ControlAll, Inject, Hop, Show, ShowEpoch, ShowWalk}
 use Rattle.schedule_file.specs.declared.table.Keyword.{Keyword}
 use Rattle.schedule_file.specs.declared.table.Keyword.TheVariants as keyword
-use Rattle.schedule_file.specs.declared.table.OriginVerb.TheVariants.{Originate}
-use Rattle.schedule_file.specs.declared.table.NodeEvent.TheVariants.{Snap}
-use Rattle.schedule_file.specs.declared.table.PairEvent.TheVariants.{Deliver}
 use Rattle.schedule_file.specs.declared.table.PlainView.{PlainView}
 use Rattle.schedule_file.specs.declared.table.PlainView.TheVariants.{Rib}
 use Rattle.schedule_file.specs.declared.table.EpochView.{EpochView}
 use Rattle.schedule_file.specs.declared.table.EpochView.TheVariants.{Cut}
 use Rattle.schedule_file.specs.Spelling.{words_by_line, prefix_text, relation_text, IsNumber, IsRange}
 use Rattle.schedule_file.specs.Table.{keyword_text, plain_text, epoch_text}
-use Rattle.schedule_file.specs.Lines.{declaring, scheme_words, declared_words, directing, directed_words, line_words, SchemeInRange, DeclaresInRange, DirectsInRange, InRange}
+use Rattle.schedule_file.specs.Directives.{first_word, rest_of}
+use Rattle.schedule_file.specs.Lines.{declaring, scheme_words, declared_words, rest_words, line_words, SchemeInRange, DeclaresInRange, RestInRange, InRange}
 use Rattle.schedule_file.specs.Printing.{line_text}
 use Rattle.schedule_file.proofs.Numbers.{decimal_digits}
 use Rattle.schedule_file.proofs.Addresses.{text_by_parts, from_second, from_third, from_fourth}
@@ -102,26 +102,11 @@ plain_relation Any = record { some = refl; high = refl }
 
 plain_keyword : (k : Keyword) → Plain (keyword_text k)
 plain_keyword keyword.Node = record { some = refl; high = refl }
-plain_keyword keyword.Link = record { some = refl; high = refl }
-plain_keyword keyword.Pref = record { some = refl; high = refl }
-plain_keyword keyword.Hold = record { some = refl; high = refl }
-plain_keyword keyword.Prefix = record { some = refl; high = refl }
-plain_keyword keyword.Hops = record { some = refl; high = refl }
-plain_keyword keyword.Transient = record { some = refl; high = refl }
-plain_keyword keyword.Begin = record { some = refl; high = refl }
-plain_keyword (keyword.Origin Originate) = record { some = refl; high = refl }
-plain_keyword (keyword.Origin event) = record { some = refl; high = refl }
-plain_keyword (keyword.Single Snap) = record { some = refl; high = refl }
-plain_keyword (keyword.Single event) = record { some = refl; high = refl }
-plain_keyword (keyword.Pair Deliver) = record { some = refl; high = refl }
-plain_keyword (keyword.Pair event) = record { some = refl; high = refl }
-plain_keyword keyword.Prefer = record { some = refl; high = refl }
-plain_keyword keyword.Propose = record { some = refl; high = refl }
-plain_keyword keyword.Drain = record { some = refl; high = refl }
-plain_keyword keyword.Control = record { some = refl; high = refl }
-plain_keyword keyword.Inject = record { some = refl; high = refl }
-plain_keyword keyword.Hop = record { some = refl; high = refl }
-plain_keyword keyword.Show = record { some = refl; high = refl }
+plain_keyword k = record { some = refl; high = refl }
+
+plain_first : (d : Directive Range) → Plain (first_word d)
+plain_first (Originate node p) = record { some = refl; high = refl }
+plain_first d = record { some = refl; high = refl }
 
 plain_view : (view : PlainView) → Plain (plain_text view)
 plain_view Rib = record { some = refl; high = refl }
@@ -149,27 +134,27 @@ declared_plain (Prefix p) h = (plain_prefix p h, tt)
 declared_plain (Hops hops) h = (plain_decimal hops (omega (arith, h)), tt)
 declared_plain (Transient scheme) h = scheme_plain scheme h
 
-directed_plain : (i : Instruction) → DirectsInRange i → AllPlain (directed_words i)
-directed_plain (Origin event node p) h = (plain_number node h.0, (plain_prefix p h.1, tt))
-directed_plain (Single event node) h = (plain_number node h, tt)
-directed_plain (Pair event a b) h = (plain_number a h.0, (plain_number b h.1, tt))
-directed_plain (Prefer node nbr value) h = (plain_number node h.0, (plain_number nbr h.1, (plain_decimal value (omega (arith, h.2)), tt)))
-directed_plain (Propose node epoch) h = (plain_number node h.0, (plain_decimal epoch (omega (arith, h.2)), tt))
-directed_plain (Drain times) h = (plain_decimal times (omega (arith, h.1)), tt)
-directed_plain (Control number) h = (plain_decimal number (omega (arith, h.1)), tt)
-directed_plain (ControlAll times) h = (record { some = refl; high = refl }, (plain_decimal times (omega (arith, h.1)), tt))
-directed_plain (Inject packet node p) h = (plain_decimal packet (omega (arith, h.1)), (plain_number node h.2, (plain_prefix p h.3, tt)))
-directed_plain (Hop packet None) h = (plain_decimal packet (omega (arith, h.1)), tt)
-directed_plain (Hop packet (Some times)) h = (plain_decimal packet (omega (arith, h.1)), (plain_decimal times (omega (arith, h.3)), tt))
-directed_plain (Show view) h = (plain_view view, tt)
-directed_plain (ShowEpoch view epoch) h = (plain_epoch_view view, (plain_decimal epoch (omega (arith, h.1)), tt))
-directed_plain (ShowWalk packet) h = (record { some = refl; high = refl }, (plain_decimal packet (omega (arith, h.1)), tt))
+rest_plain : (r : Rest Range) → RestInRange r → AllPlain (rest_words r)
+rest_plain (Origin node p) h = (plain_number node h.0, (plain_prefix p h.1, tt))
+rest_plain (Single node) h = (plain_number node h, tt)
+rest_plain (Pair a b) h = (plain_number a h.0, (plain_number b h.1, tt))
+rest_plain (Prefer node nbr value) h = (plain_number node h.0, (plain_number nbr h.1, (plain_decimal value (omega (arith, h.2)), tt)))
+rest_plain (Propose node epoch) h = (plain_number node h.0, (plain_decimal epoch (omega (arith, h.2)), tt))
+rest_plain (Drain times) h = (plain_decimal times (omega (arith, h.1)), tt)
+rest_plain (Control number) h = (plain_decimal number (omega (arith, h.1)), tt)
+rest_plain (ControlAll times) h = (record { some = refl; high = refl }, (plain_decimal times (omega (arith, h.1)), tt))
+rest_plain (Inject packet node p) h = (plain_decimal packet (omega (arith, h.1)), (plain_number node h.2, (plain_prefix p h.3, tt)))
+rest_plain (Hop packet None) h = (plain_decimal packet (omega (arith, h.1)), tt)
+rest_plain (Hop packet (Some times)) h = (plain_decimal packet (omega (arith, h.1)), (plain_decimal times (omega (arith, h.3)), tt))
+rest_plain (Show view) h = (plain_view view, tt)
+rest_plain (ShowEpoch view epoch) h = (plain_epoch_view view, (plain_decimal epoch (omega (arith, h.1)), tt))
+rest_plain (ShowWalk packet) h = (record { some = refl; high = refl }, (plain_decimal packet (omega (arith, h.1)), tt))
 
 line_plain : (line : Line) → InRange line → AllPlain (line_words line)
 line_plain Blank h = tt
 line_plain Begin h = (plain_keyword keyword.Begin, tt)
 line_plain (Declares d) h = (plain_keyword (declaring d), declared_plain d h)
-line_plain (Directs i) h = (plain_keyword (directing i), directed_plain i h)
+line_plain (Directs d) h = (plain_first d, rest_plain (rest_of d) h)
 
 -- plain words are words
 never_separates : (b : ℕ) → 46 ≤ b → separates b ≡ false

@@ -8,8 +8,11 @@ use Rattle.schedule_file.specs.declared.lines.Line.{Line}
 use Rattle.schedule_file.specs.declared.lines.Line.TheVariants.{Blank, Begin, Declares, Directs}
 use Rattle.schedule_file.specs.declared.lines.Declaration.{Declaration}
 use Rattle.schedule_file.specs.declared.lines.Declaration.TheVariants.{Node, Link, Pref, Hold, Prefix, Hops, Transient}
-use Rattle.schedule_file.specs.declared.lines.Instruction.{Instruction}
-use Rattle.schedule_file.specs.declared.lines.Instruction.TheVariants.{Origin, Single, Pair, Prefer, Propose, Drain, Control, ControlAll, Inject, Hop, Show, ShowEpoch, ShowWalk}
+use Rattle.topology.specs.declared.prefixes.Prefix.{Prefix as Range}
+use Rattle.schedule_file.specs.declared.directives.Directive.{Directive}
+use Rattle.schedule_file.specs.declared.directives.Directive.TheVariants.{Originate}
+use Rattle.schedule_file.specs.declared.directives.Rest.{Rest}
+use Rattle.schedule_file.specs.declared.directives.Rest.TheVariants.{Origin, Single, Pair, Prefer, Propose, Drain, Control, ControlAll, Inject, Hop, Show, ShowEpoch, ShowWalk}
 use Rattle.schedule_file.specs.declared.table.Keyword.{Keyword}
 use Rattle.schedule_file.specs.declared.table.Part.{Part}
 use Rattle.schedule_file.specs.declared.table.Keyword.TheVariants as keyword
@@ -18,16 +21,17 @@ use Rattle.schedule_file.specs.declared.table.PlainView.{PlainView}
 use Rattle.schedule_file.specs.declared.table.PlainView.TheVariants.{Rib}
 use Rattle.schedule_file.specs.declared.table.View.TheVariants.{Plain, OfEpoch}
 use Rattle.schedule_file.specs.Spelling.{prefix_text, relation_text, IsNumber}
-use Rattle.schedule_file.specs.Lines.{declaring, declared_words, directing, directed_words, line_words, DeclaresInRange, DirectsInRange, InRange, Spells}
+use Rattle.schedule_file.specs.Directives.{first_word, rest_of, directive_by}
+use Rattle.schedule_file.specs.Lines.{declaring, declared_words, directing, rest_words, line_words, DeclaresInRange, RestInRange, InRange, Spells}
 use Rattle.schedule_file.specs.Words.{number_of, prefix_of, relation_of}
-use Rattle.schedule_file.specs.Table.{Field, keyword_text, plain_text, epoch_text, view_in, shape_of, may_stand, may_have, fields, view_fields, spells_field, first_fault, relations}
+use Rattle.schedule_file.specs.Table.{Field, may_direct, keyword_in, keyword_text, plain_text, epoch_text, view_in, shape_of, may_stand, may_have, fields, view_fields, spells_field, first_fault, relations}
 use Rattle.schedule_file.specs.Table.Field.{NodeNumber, Value, HopLimit, Times, MessageNumber, PacketNumber, Masked, OneOf, Viewed, Schemed, EpochNumber}
 use Rattle.schedule_file.specs.Grammar.{stands}
 use Rattle.schedule_file.specs.Refusals.{fault_by, word_fault, shown_by, line_by, line_from, line_of}
 use Rattle.schedule_file.proofs.Numbers.{decimal_value}
 use Rattle.schedule_file.proofs.Passing.{spells_decimal, spells_text, prefix_of_text, relation_of_text, relation_known, has_only}
 use Rattle.schedule_file.proofs.Fields.{fine, good_form}
-use Rattle.schedule_file.proofs.Keywords.{keyword_found, view_found}
+use Rattle.schedule_file.proofs.Keywords.{keyword_found, directive_found, view_found}
 
 node_fine : (n : ℕ) → IsNumber n → spells_field NodeNumber (decimal n) ≡ true
 node_fine n h = spells_decimal 1 65535 n (omega (arith, h.0)) (omega (arith, h.1)) (omega (arith, h.1))
@@ -96,56 +100,56 @@ plain_fine : (view : PlainView) → first_fault (view_fields (view_in (plain_tex
 plain_fine Rib = refl
 plain_fine view = refl
 
-fine_instruction : (i : Instruction) → DirectsInRange i → Fine (directing i) (directed_words i)
-fine_instruction (Origin event node p) h = record {
+fine_rest : (r : Rest Range) → RestInRange r → Fine (directing r) (rest_words r)
+fine_rest (Origin node p) h = record {
   counted = refl;
   fine_words = two_fine NodeNumber Masked (decimal node) (prefix_text p) (node_fine node h.0) (spells_text p h.1);
 }
-fine_instruction (Single event node) h = record { counted = refl; fine_words = one_fine NodeNumber (decimal node) (node_fine node h) }
-fine_instruction (Pair event a b) h = record {
+fine_rest (Single node) h = record { counted = refl; fine_words = one_fine NodeNumber (decimal node) (node_fine node h) }
+fine_rest (Pair a b) h = record {
   counted = refl;
   fine_words = two_fine NodeNumber NodeNumber (decimal a) (decimal b) (node_fine a h.0) (node_fine b h.1);
 }
-fine_instruction (Prefer node nbr value) h = record {
+fine_rest (Prefer node nbr value) h = record {
   counted = refl;
   fine_words = three_fine NodeNumber NodeNumber Value (decimal node) (decimal nbr) (decimal value) (node_fine node h.0) (node_fine nbr h.1) (value_fine value h.2);
 }
-fine_instruction (Propose node epoch) h = record {
+fine_rest (Propose node epoch) h = record {
   counted = refl;
   fine_words = two_fine NodeNumber EpochNumber (decimal node) (decimal epoch) (node_fine node h.0) (epoch_fine epoch h.1 h.2);
 }
-fine_instruction (Drain times) h = record { counted = refl; fine_words = one_fine Times (decimal times) (times_fine times h.0 h.1) }
-fine_instruction (Control number) h = record {
+fine_rest (Drain times) h = record { counted = refl; fine_words = one_fine Times (decimal times) (times_fine times h.0 h.1) }
+fine_rest (Control number) h = record {
   counted = refl;
   fine_words = one_fine MessageNumber (decimal number) (message_fine number h.0 h.1);
 }
-fine_instruction (ControlAll times) h = record {
+fine_rest (ControlAll times) h = record {
   counted = refl;
   fine_words = two_fine (OneOf (codes "all" ∷ [])) Times (codes "all") (decimal times) (has_only (codes "all")) (times_fine times h.0 h.1);
 }
-fine_instruction (Inject packet node p) h = record {
+fine_rest (Inject packet node p) h = record {
   counted = refl;
   fine_words = three_fine PacketNumber NodeNumber Masked (decimal packet) (decimal node) (prefix_text p) (packet_fine packet h.0 h.1) (node_fine node h.2) (spells_text p h.3);
 }
-fine_instruction (Hop packet None) h = record { counted = refl; fine_words = one_fine PacketNumber (decimal packet) (packet_fine packet h.0 h.1) }
-fine_instruction (Hop packet (Some times)) h = record {
+fine_rest (Hop packet None) h = record { counted = refl; fine_words = one_fine PacketNumber (decimal packet) (packet_fine packet h.0 h.1) }
+fine_rest (Hop packet (Some times)) h = record {
   counted = refl;
   fine_words = two_fine PacketNumber Times (decimal packet) (decimal times) (packet_fine packet h.0 h.1) (times_fine times h.2 h.3);
 }
-fine_instruction (Show view) h = record { counted = refl; fine_words = plain_fine view }
-fine_instruction (ShowEpoch Cut epoch) h = record {
+fine_rest (Show view) h = record { counted = refl; fine_words = plain_fine view }
+fine_rest (ShowEpoch Cut epoch) h = record {
   counted = refl;
   fine_words = two_fine Viewed EpochNumber (codes "cut") (decimal epoch) refl (epoch_fine epoch h.0 h.1);
 }
-fine_instruction (ShowEpoch Closure epoch) h = record {
+fine_rest (ShowEpoch Closure epoch) h = record {
   counted = refl;
   fine_words = two_fine Viewed EpochNumber (codes "closure") (decimal epoch) refl (epoch_fine epoch h.0 h.1);
 }
-fine_instruction (ShowEpoch Tables epoch) h = record {
+fine_rest (ShowEpoch Tables epoch) h = record {
   counted = refl;
   fine_words = two_fine Viewed EpochNumber (codes "tables") (decimal epoch) refl (epoch_fine epoch h.0 h.1);
 }
-fine_instruction (ShowWalk packet) h = record {
+fine_rest (ShowWalk packet) h = record {
   counted = refl;
   fine_words = two_fine Viewed PacketNumber (codes "walk") (decimal packet) refl (packet_fine packet h.0 h.1);
 }
@@ -155,67 +159,79 @@ declares_here : (part : Part) (d : Declaration) → stands part (Declares d) ≡
 declares_here part (Node id consolidator) = refl
 declares_here part d = refl
 
-directs_here : (part : Part) (i : Instruction) → stands part (Directs i) ≡ may_stand part (shape_of (directing i))
-directs_here part (Origin verb node p) = refl
-directs_here part i = refl
+directs_here : (part : Part) (r : Rest Range) → may_direct part ≡ may_stand part (shape_of (directing r))
+directs_here part (Origin node p) = refl
+directs_here part r = refl
 
-by_keyword : (part : Part) (k : Keyword) (words : List (List ℕ)) → may_stand part (shape_of k) ≡ true → Fine k words → word_fault part (keyword_text k ∷ words) ≡ None
-by_keyword part k words here f =
-    ap (λ found. fault_by part found words) (keyword_found k)
+by_keyword : (part : Part) (word : List ℕ) (k : Keyword) (words : List (List ℕ)) → keyword_in word ≡ Some k → may_stand part (shape_of k) ≡ true → Fine k words → word_fault part (word ∷ words) ≡ None
+by_keyword part word k words found here f =
+    ap (λ found. fault_by part found words) found
     ∙ ap (λ fault. option_or fault (first_fault (fields k words) words)) (good_form part k words here f.counted)
     ∙ f.fine_words
 
 pub fine_line : (part : Part) (line : Line) → InRange line → stands part line ≡ true → word_fault part (line_words line) ≡ None
 fine_line part Blank h s = refl
-fine_line part Begin h s = by_keyword part keyword.Begin [] s (record { counted = refl; fine_words = refl })
-fine_line part (Declares d) h s = by_keyword part (declaring d) (declared_words d) (sym (declares_here part d) ∙ s) (fine_declaration d h)
-fine_line part (Directs i) h s = by_keyword part (directing i) (directed_words i) (sym (directs_here part i) ∙ s) (fine_instruction i h)
+fine_line part Begin h s = by_keyword part (keyword_text keyword.Begin) keyword.Begin [] refl s (record { counted = refl; fine_words = refl })
+fine_line part (Declares d) h s = by_keyword part (keyword_text (declaring d)) (declaring d) (declared_words d) (keyword_found (declaring d)) (sym (declares_here part d) ∙ s) (fine_declaration d h)
+fine_line part (Directs d) h s =
+    by_keyword part (first_word d) (directing (rest_of d)) (rest_words (rest_of d)) (directive_found d) (sym (directs_here part (rest_of d)) ∙ s) (fine_rest (rest_of d) h)
 
 value_back : (n : ℕ) → IsNumber n → number_of (decimal n) ≡ n
 value_back n h = decimal_value n (omega (arith, h.1))
 
-declared_back : (d : Declaration) → DeclaresInRange d → line_by (declaring d) (declared_words d) ≡ Declares d
-declared_back (Node id false) h = ap (λ n. Declares (Node n false)) (value_back id h)
-declared_back (Node id true) h = ap (λ n. Declares (Node n true)) (value_back id h)
-declared_back (Link a b relation) h =
+declared_back : (word : List ℕ) (d : Declaration) → DeclaresInRange d → line_by (declaring d) word (declared_words d) ≡ Declares d
+declared_back word (Node id false) h = ap (λ n. Declares (Node n false)) (value_back id h)
+declared_back word (Node id true) h = ap (λ n. Declares (Node n true)) (value_back id h)
+declared_back word (Link a b relation) h =
     ap₂ (λ m n. Declares (Link m n (relation_of (relation_text relation)))) (value_back a h.0) (value_back b h.1) ∙ ap (λ r. Declares (Link a b r)) (relation_of_text relation)
-declared_back (Pref a b value) h =
+declared_back word (Pref a b value) h =
     ap₂ (λ m n. Declares (Pref m n (number_of (decimal value)))) (value_back a h.0) (value_back b h.1) ∙ ap (λ n. Declares (Pref a b n)) (decimal_value value (omega (arith, h.2)))
-declared_back (Hold a b) h = ap₂ (λ m n. Declares (Hold m n)) (value_back a h.0) (value_back b h.1)
-declared_back (Prefix p) h = ap (λ q. Declares (Prefix q)) (prefix_of_text p h)
-declared_back (Hops hops) h = ap (λ n. Declares (Hops n)) (decimal_value hops (omega (arith, h)))
-declared_back (Transient scheme.Deflect) h = refl
-declared_back (Transient (scheme.Detour node)) h = ap (λ n. Declares (Transient (scheme.Detour n))) (value_back node h)
-declared_back (Transient scheme.Backup) h = refl
+declared_back word (Hold a b) h = ap₂ (λ m n. Declares (Hold m n)) (value_back a h.0) (value_back b h.1)
+declared_back word (Prefix p) h = ap (λ q. Declares (Prefix q)) (prefix_of_text p h)
+declared_back word (Hops hops) h = ap (λ n. Declares (Hops n)) (decimal_value hops (omega (arith, h)))
+declared_back word (Transient scheme.Deflect) h = refl
+declared_back word (Transient (scheme.Detour node)) h = ap (λ n. Declares (Transient (scheme.Detour n))) (value_back node h)
+declared_back word (Transient scheme.Backup) h = refl
 
-directed_back : (i : Instruction) → DirectsInRange i → line_by (directing i) (directed_words i) ≡ Directs i
-directed_back (Origin event node p) h = ap₂ (λ n q. Directs (Origin event n q)) (value_back node h.0) (prefix_of_text p h.1)
-directed_back (Single event node) h = ap (λ n. Directs (Single event n)) (value_back node h)
-directed_back (Pair event a b) h = ap₂ (λ m n. Directs (Pair event m n)) (value_back a h.0) (value_back b h.1)
-directed_back (Prefer node nbr value) h =
-    ap₂ (λ m n. Directs (Prefer m n (number_of (decimal value)))) (value_back node h.0) (value_back nbr h.1) ∙ ap (λ n. Directs (Prefer node nbr n)) (decimal_value value (omega (arith, h.2)))
-directed_back (Propose node epoch) h = ap₂ (λ m n. Directs (Propose m n)) (value_back node h.0) (decimal_value epoch (omega (arith, h.2)))
-directed_back (Drain times) h = ap (λ n. Directs (Drain n)) (decimal_value times (omega (arith, h.1)))
-directed_back (Control number) h = ap (λ n. Directs (Control n)) (decimal_value number (omega (arith, h.1)))
-directed_back (ControlAll times) h = ap (λ n. Directs (ControlAll n)) (decimal_value times (omega (arith, h.1)))
-directed_back (Inject packet node p) h =
-    ap₂ (λ k n. Directs (Inject k n (prefix_of (prefix_text p)))) (decimal_value packet (omega (arith, h.1))) (value_back node h.2) ∙ ap (λ q. Directs (Inject packet node q)) (prefix_of_text p h.3)
-directed_back (Hop packet None) h = ap (λ k. Directs (Hop k None)) (decimal_value packet (omega (arith, h.1)))
-directed_back (Hop packet (Some times)) h = ap₂ (λ k n. Directs (Hop k (Some n))) (decimal_value packet (omega (arith, h.1))) (decimal_value times (omega (arith, h.3)))
-directed_back (Show view) h = ap (λ v. shown_by v (plain_text view ∷ [])) (view_found (Plain view))
-directed_back (ShowEpoch view epoch) h =
+rest_back : (word : List ℕ) (r : Rest Range) → RestInRange r → line_by (directing r) word (rest_words r) ≡ Directs (directive_by word r)
+rest_back word (Origin node p) h = ap₂ (λ n q. Directs (directive_by word (Origin n q))) (value_back node h.0) (prefix_of_text p h.1)
+rest_back word (Single node) h = ap (λ n. Directs (directive_by word (Single n))) (value_back node h)
+rest_back word (Pair a b) h = ap₂ (λ m n. Directs (directive_by word (Pair m n))) (value_back a h.0) (value_back b h.1)
+rest_back word (Prefer node nbr value) h =
+    ap₂ (λ m n. Directs (directive_by word (Prefer m n (number_of (decimal value))))) (value_back node h.0) (value_back nbr h.1)
+    ∙ ap (λ n. Directs (directive_by word (Prefer node nbr n))) (decimal_value value (omega (arith, h.2)))
+rest_back word (Propose node epoch) h = ap₂ (λ m n. Directs (directive_by word (Propose m n))) (value_back node h.0) (decimal_value epoch (omega (arith, h.2)))
+rest_back word (Drain times) h = ap (λ n. Directs (directive_by word (Drain n))) (decimal_value times (omega (arith, h.1)))
+rest_back word (Control number) h = ap (λ n. Directs (directive_by word (Control n))) (decimal_value number (omega (arith, h.1)))
+rest_back word (ControlAll times) h = ap (λ n. Directs (directive_by word (ControlAll n))) (decimal_value times (omega (arith, h.1)))
+rest_back word (Inject packet node p) h =
+    ap₂ (λ k n. Directs (directive_by word (Inject k n (prefix_of (prefix_text p))))) (decimal_value packet (omega (arith, h.1))) (value_back node h.2)
+    ∙ ap (λ q. Directs (directive_by word (Inject packet node q))) (prefix_of_text p h.3)
+rest_back word (Hop packet None) h = ap (λ k. Directs (directive_by word (Hop k None))) (decimal_value packet (omega (arith, h.1)))
+rest_back word (Hop packet (Some times)) h =
+    ap₂ (λ k n. Directs (directive_by word (Hop k (Some n)))) (decimal_value packet (omega (arith, h.1))) (decimal_value times (omega (arith, h.3)))
+rest_back word (Show view) h = ap (λ v. shown_by v (plain_text view ∷ [])) (view_found (Plain view))
+rest_back word (ShowEpoch view epoch) h =
     ap (λ v. shown_by v (epoch_text view ∷ decimal epoch ∷ [])) (view_found (OfEpoch view))
-    ∙ ap (λ n. Directs (ShowEpoch view n)) (decimal_value epoch (omega (arith, h.1)))
-directed_back (ShowWalk packet) h = ap (λ k. Directs (ShowWalk k)) (decimal_value packet (omega (arith, h.1)))
+    ∙ ap (λ n. Directs (directive_by word (ShowEpoch view n))) (decimal_value epoch (omega (arith, h.1)))
+rest_back word (ShowWalk packet) h = ap (λ k. Directs (directive_by word (ShowWalk k))) (decimal_value packet (omega (arith, h.1)))
 
-from_keyword : (k : Keyword) (words : List (List ℕ)) → line_of (keyword_text k ∷ words) ≡ line_by k words
-from_keyword k words = ap (λ found. line_from found words) (keyword_found k)
+-- a directive is that of its first word and what follows
+pub spelled_again : {P : Type 0} (d : Directive P) → directive_by (first_word d) (rest_of d) ≡ d
+spelled_again (Originate node p) = refl
+spelled_again d = refl
+
+from_keyword : (word : List ℕ) (k : Keyword) (words : List (List ℕ)) → keyword_in word ≡ Some k → line_of (word ∷ words) ≡ line_by k word words
+from_keyword word k words found = ap (λ found. line_from found word words) found
 
 pub read_back : (line : Line) → InRange line → line_of (line_words line) ≡ line
 read_back Blank h = refl
-read_back Begin h = from_keyword keyword.Begin []
-read_back (Declares d) h = from_keyword (declaring d) (declared_words d) ∙ declared_back d h
-read_back (Directs i) h = from_keyword (directing i) (directed_words i) ∙ directed_back i h
+read_back Begin h = from_keyword (keyword_text keyword.Begin) keyword.Begin [] refl
+read_back (Declares d) h =
+    from_keyword (keyword_text (declaring d)) (declaring d) (declared_words d) (keyword_found (declaring d)) ∙ declared_back (keyword_text (declaring d)) d h
+read_back (Directs d) h =
+    from_keyword (first_word d) (directing (rest_of d)) (rest_words (rest_of d)) (directive_found d) ∙ rest_back (first_word d) (rest_of d) h
+    ∙ ap Directs (spelled_again d)
 
 -- the same for words that spell a line
 pub fine_words : (part : Part) (words : List (List ℕ)) (line : Line) → Spells words line → stands part line ≡ true → word_fault part words ≡ None

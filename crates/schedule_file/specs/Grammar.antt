@@ -13,17 +13,17 @@ use Rattle.schedule_file.specs.declared.lines.Line.{Line}
 use Rattle.schedule_file.specs.declared.lines.Line.TheVariants.{Blank, Begin, Declares, Directs}
 use Rattle.schedule_file.specs.declared.lines.Declaration.{Declaration}
 use Rattle.schedule_file.specs.declared.lines.Declaration.TheVariants.{Node, Link, Pref, Hold, Prefix, Hops, Transient}
-use Rattle.schedule_file.specs.declared.lines.Instruction.{Instruction}
-use Rattle.schedule_file.specs.declared.lines.Instruction.TheVariants.{Origin, Single, Pair, Prefer, Propose, Drain, Control, ControlAll, Inject, Hop, Show, ShowEpoch, ShowWalk}
-use Rattle.schedule_file.specs.declared.lines.Directive.{Directive}
-use Rattle.schedule_file.specs.declared.lines.Directive.TheVariants as directive
+use Rattle.schedule_file.specs.declared.directives.Directive.{Directive}
+use Rattle.schedule_file.specs.declared.directives.Rest.{Rest}
+use Rattle.schedule_file.specs.declared.directives.Rest.TheVariants.{Origin, Single, Pair, Prefer, Propose, Inject}
 use Rattle.schedule_file.specs.declared.lines.Numbered.{Numbered}
 use Rattle.schedule_file.specs.declared.lines.Schedule.{Schedule}
 use Rattle.schedule_file.specs.Spelling.{words_by_line}
 use Rattle.schedule_file.specs.Lines.{DirectsInRange, Spells}
 use Rattle.schedule_file.specs.declared.table.Part.{Part}
 use Rattle.schedule_file.specs.declared.table.Part.TheVariants.{Network, Run, Over}
-use Rattle.schedule_file.specs.Table.{may_declare, may_direct, origin_directive, node_directive, pair_directive, plain_directive, epoch_directive}
+use Rattle.schedule_file.specs.Directives.{rest_of, renamed}
+use Rattle.schedule_file.specs.Table.{may_declare, may_direct}
 
 -- lists of lines are newest first
 
@@ -42,7 +42,7 @@ abbrev pub with_line : Line → Net → Net
 with_line Blank net = net
 with_line Begin net = net
 with_line (Declares declaration) net = with_declaration declaration net
-with_line (Directs instruction) net = net
+with_line (Directs directive) net = net
 
 -- the network that the lines describe
 abbrev pub net_of : List Line → Net
@@ -55,7 +55,7 @@ begun [] = false
 begun (Blank ∷ earlier) = begun earlier
 begun (Begin ∷ earlier) = true
 begun (Declares declaration ∷ earlier) = begun earlier
-begun (Directs instruction ∷ earlier) = begun earlier
+begun (Directs directive ∷ earlier) = begun earlier
 
 -- which lines may follow these, if `behind` are the lines allowed after begin
 abbrev pub part_in : Part → List Line → Part
@@ -66,7 +66,7 @@ abbrev pub stands : Part → Line → Bool
 stands part Blank = true
 stands part Begin = may_declare part
 stands part (Declares declaration) = may_declare part
-stands part (Directs instruction) = may_direct part
+stands part (Directs directive) = may_direct part
 
 -- the fault for each refusal of the network; NoMemory is not a fault of the line
 abbrev pub kind_of : BuildError → Option BadKind
@@ -116,28 +116,26 @@ declared_fault net (Prefix p) = fault_from (prefix_refusal net p)
 declared_fault net (Hops hops) = None
 declared_fault net (Transient scheme) = fault_from (scheme_refusal net scheme)
 
--- the first fault of the names of an instruction: an unknown node, an unknown prefix, equal ends, no link
-abbrev pub directed_fault : Net → Instruction → Option BadKind
-directed_fault net (Origin event node p) = origin_fault net node p
-directed_fault net (Single event node) = node_fault net node
-directed_fault net (Pair event a b) = pair_fault net a b
-directed_fault net (Prefer node nbr value) = neighbour_fault net node nbr
-directed_fault net (Propose node epoch) = node_fault net node
-directed_fault net (Drain times) = None
-directed_fault net (Control number) = None
-directed_fault net (ControlAll times) = None
-directed_fault net (Inject packet node p) = origin_fault net node p
-directed_fault net (Hop packet times) = None
-directed_fault net (Show view) = None
-directed_fault net (ShowEpoch view epoch) = None
-directed_fault net (ShowWalk packet) = None
+-- the first fault of the names among these words: an unknown node, an unknown prefix, equal ends, no link
+abbrev pub rest_fault : Net → Rest Range → Option BadKind
+rest_fault net (Origin node p) = origin_fault net node p
+rest_fault net (Single node) = node_fault net node
+rest_fault net (Pair a b) = pair_fault net a b
+rest_fault net (Prefer node nbr value) = neighbour_fault net node nbr
+rest_fault net (Propose node epoch) = node_fault net node
+rest_fault net (Inject packet node p) = origin_fault net node p
+rest_fault net other = None
+
+-- the first fault of the names of a directive
+abbrev pub directed_fault : Net → Directive Range → Option BadKind
+directed_fault net directive = rest_fault net (rest_of directive)
 
 -- the first fault of the names of a line
 abbrev pub name_fault : Net → Line → Option BadKind
 name_fault net Blank = None
 name_fault net Begin = None
 name_fault net (Declares declaration) = declared_fault net declaration
-name_fault net (Directs instruction) = directed_fault net instruction
+name_fault net (Directs directive) = directed_fault net directive
 
 -- the line may follow these
 abbrev pub allowed : Part → List Line → Line → Bool
@@ -148,28 +146,16 @@ abbrev pub place_in : Range → List Range → ℕ
 place_in p [] = 0
 place_in p (q ∷ qs) = if same_prefix p q then 0 else suc (place_in p qs)
 
--- the directive of an instruction, with the places of its prefixes
-abbrev pub directive_of : Net → Instruction → Directive
-directive_of net (Origin event node p) = origin_directive event node (place_in p net.prefixes)
-directive_of net (Single event node) = node_directive event node
-directive_of net (Pair event a b) = pair_directive event a b
-directive_of net (Prefer node nbr value) = directive.Prefer node nbr value
-directive_of net (Propose node epoch) = directive.Propose node epoch
-directive_of net (Drain times) = directive.Drain times
-directive_of net (Control number) = directive.Control number
-directive_of net (ControlAll times) = directive.ControlAll times
-directive_of net (Inject packet node p) = directive.Inject packet node (place_in p net.prefixes)
-directive_of net (Hop packet times) = directive.Hop packet times
-directive_of net (Show view) = plain_directive view
-directive_of net (ShowEpoch view epoch) = epoch_directive view epoch
-directive_of net (ShowWalk packet) = directive.ShowWalk packet
+-- the directive with the place of its prefix
+abbrev pub directive_of : Net → Directive Range → Directive ℕ
+directive_of net directive = renamed (λ p. place_in p net.prefixes) directive
 
 -- the directives of a line
-abbrev pub directed : Net → Line → List Directive
+abbrev pub directed : Net → Line → List (Directive ℕ)
 directed net Blank = []
 directed net Begin = []
 directed net (Declares declaration) = []
-directed net (Directs instruction) = directive_of net instruction ∷ []
+directed net (Directs directive) = directive_of net directive ∷ []
 
 -- the directives of the lines, the oldest first, each with the number of its line
 abbrev pub directives_of : List Line → List Numbered
@@ -201,12 +187,12 @@ IsFile bytes schedule = IsRead Run bytes schedule
 abbrev pub IsTopologyFile : List ℕ → Net → Type 0
 IsTopologyFile bytes net = (lines : List Line) × ReadsIn Over [] (words_by_line bytes) lines × (net ≡ net_of lines)
 
--- the directive is that of an instruction whose numbers are in range and whose names are in the network
-pub record IsInstructed (net : Net) (d : Directive) : Type 0 where
-  pub instruction : Instruction
-  pub same : d ≡ directive_of net instruction
-  pub in_range : DirectsInRange instruction
-  pub named : directed_fault net instruction ≡ None
+-- the directive is that of a line whose numbers are in range and whose names are in the network
+pub record IsDirected (net : Net) (d : Directive ℕ) : Type 0 where
+  pub line : Directive Range
+  pub same : d ≡ directive_of net line
+  pub in_range : DirectsInRange line
+  pub named : directed_fault net line ≡ None
 
-abbrev pub AreInstructed : Net → List Numbered → Type 0
-AreInstructed net lines = All (λ (d : Numbered). IsInstructed net d.directive) lines
+abbrev pub AreDirected : Net → List Numbered → Type 0
+AreDirected net lines = All (λ (d : Numbered). IsDirected net d.directive) lines

@@ -6,5 +6,6 @@ pub mod Grammar
 pub mod Refusals
 pub mod Standing
 pub mod Cutting
+pub mod Directives
 pub mod Ends
 pub mod Printing

@@ -2,19 +2,22 @@
 use Rattle.std.specs.Prelude.{ℕ, true, false, ◌≡◌, ◌≤◌, Some, None, List, [], ◌∷◌, codes}
 use Rattle.std.specs.Fmt.{decimal}
 use Rattle.topology.specs.declared.names.Scheme.{Scheme}
+use Rattle.topology.specs.declared.prefixes.Prefix.{Prefix as Range}
 use Rattle.topology.specs.declared.names.Scheme.TheVariants.{Deflect, Detour, Backup}
 use Rattle.schedule_file.specs.declared.lines.Line.{Line}
 use Rattle.schedule_file.specs.declared.lines.Line.TheVariants.{Blank, Begin, Declares, Directs}
 use Rattle.schedule_file.specs.declared.lines.Declaration.{Declaration}
 use Rattle.schedule_file.specs.declared.lines.Declaration.TheVariants.{Node, Link, Pref, Hold, Prefix, Hops, Transient}
-use Rattle.schedule_file.specs.declared.lines.Instruction.{Instruction}
-use Rattle.schedule_file.specs.declared.lines.Instruction.TheVariants.{Origin, Single, Pair, Prefer, Propose, Drain, Control, ControlAll, Inject, Hop, Show, ShowEpoch, ShowWalk}
+use Rattle.schedule_file.specs.declared.directives.Directive.{Directive}
+use Rattle.schedule_file.specs.declared.directives.Rest.{Rest}
+use Rattle.schedule_file.specs.declared.directives.Rest.TheVariants.{Origin, Single, Pair, Prefer, Propose, Drain, Control, ControlAll, Inject, Hop, Show, ShowEpoch, ShowWalk}
 use Rattle.schedule_file.specs.declared.table.Keyword.{Keyword}
 use Rattle.schedule_file.specs.declared.table.Keyword.TheVariants as keyword
 use Rattle.schedule_file.specs.declared.table.View.TheVariants.{Walk}
 use Rattle.schedule_file.specs.declared.table.SchemeName.TheVariants as name
 use Rattle.topology.specs.declared.limits.TheConstants.{HIGHEST_PREFERENCE, HIGHEST_HOPS, MOST_TIMES, HIGHEST_MESSAGE, HIGHEST_PACKET, HIGHEST_EPOCH}
 use Rattle.schedule_file.specs.Spelling.{prefix_text, relation_text, IsNumber, IsRange}
+use Rattle.schedule_file.specs.Directives.{first_word, rest_of}
 use Rattle.schedule_file.specs.Table.{keyword_text, plain_text, epoch_text, view_text, scheme_text}
 
 -- the kind of line that declares this
@@ -44,11 +47,11 @@ declared_words (Prefix p) = prefix_text p ∷ []
 declared_words (Hops hops) = decimal hops ∷ []
 declared_words (Transient scheme) = scheme_words scheme
 
--- the kind of line that directs this
-abbrev pub directing : Instruction → Keyword
-directing (Origin event node p) = keyword.Origin event
-directing (Single event node) = keyword.Single event
-directing (Pair event a b) = keyword.Pair event
+-- the kind of line that goes on so
+abbrev pub directing : {P : Type 0} → Rest P → Keyword
+directing (Origin node p) = keyword.Origin
+directing (Single node) = keyword.Single
+directing (Pair a b) = keyword.Pair
 directing (Prefer node nbr value) = keyword.Prefer
 directing (Propose node epoch) = keyword.Propose
 directing (Drain times) = keyword.Drain
@@ -60,29 +63,29 @@ directing (Show view) = keyword.Show
 directing (ShowEpoch view epoch) = keyword.Show
 directing (ShowWalk packet) = keyword.Show
 
--- the words of an instruction after the first
-abbrev pub directed_words : Instruction → List (List ℕ)
-directed_words (Origin event node p) = decimal node ∷ prefix_text p ∷ []
-directed_words (Single event node) = decimal node ∷ []
-directed_words (Pair event a b) = decimal a ∷ decimal b ∷ []
-directed_words (Prefer node nbr value) = decimal node ∷ decimal nbr ∷ decimal value ∷ []
-directed_words (Propose node epoch) = decimal node ∷ decimal epoch ∷ []
-directed_words (Drain times) = decimal times ∷ []
-directed_words (Control number) = decimal number ∷ []
-directed_words (ControlAll times) = codes "all" ∷ decimal times ∷ []
-directed_words (Inject packet node p) = decimal packet ∷ decimal node ∷ prefix_text p ∷ []
-directed_words (Hop packet None) = decimal packet ∷ []
-directed_words (Hop packet (Some times)) = decimal packet ∷ decimal times ∷ []
-directed_words (Show view) = plain_text view ∷ []
-directed_words (ShowEpoch view epoch) = epoch_text view ∷ decimal epoch ∷ []
-directed_words (ShowWalk packet) = view_text Walk ∷ decimal packet ∷ []
+-- the words after the first word of a directive's line
+abbrev pub rest_words : Rest Range → List (List ℕ)
+rest_words (Origin node p) = decimal node ∷ prefix_text p ∷ []
+rest_words (Single node) = decimal node ∷ []
+rest_words (Pair a b) = decimal a ∷ decimal b ∷ []
+rest_words (Prefer node nbr value) = decimal node ∷ decimal nbr ∷ decimal value ∷ []
+rest_words (Propose node epoch) = decimal node ∷ decimal epoch ∷ []
+rest_words (Drain times) = decimal times ∷ []
+rest_words (Control number) = decimal number ∷ []
+rest_words (ControlAll times) = codes "all" ∷ decimal times ∷ []
+rest_words (Inject packet node p) = decimal packet ∷ decimal node ∷ prefix_text p ∷ []
+rest_words (Hop packet None) = decimal packet ∷ []
+rest_words (Hop packet (Some times)) = decimal packet ∷ decimal times ∷ []
+rest_words (Show view) = plain_text view ∷ []
+rest_words (ShowEpoch view epoch) = epoch_text view ∷ decimal epoch ∷ []
+rest_words (ShowWalk packet) = view_text Walk ∷ decimal packet ∷ []
 
 -- the words that spell a line
 abbrev pub line_words : Line → List (List ℕ)
 line_words Blank = []
 line_words Begin = keyword_text keyword.Begin ∷ []
 line_words (Declares declaration) = keyword_text (declaring declaration) ∷ declared_words declaration
-line_words (Directs instruction) = keyword_text (directing instruction) ∷ directed_words instruction
+line_words (Directs directive) = first_word directive ∷ rest_words (rest_of directive)
 
 -- the node of a scheme is in range
 abbrev pub SchemeInRange : Scheme → Type 0
@@ -100,28 +103,32 @@ DeclaresInRange (Prefix p) = IsRange p
 DeclaresInRange (Hops hops) = hops ≤ HIGHEST_HOPS
 DeclaresInRange (Transient scheme) = SchemeInRange scheme
 
--- each number of an instruction is within its range
-abbrev pub DirectsInRange : Instruction → Type 0
-DirectsInRange (Origin event node p) = IsNumber node × IsRange p
-DirectsInRange (Single event node) = IsNumber node
-DirectsInRange (Pair event a b) = IsNumber a × IsNumber b
-DirectsInRange (Prefer node nbr value) = IsNumber node × IsNumber nbr × (value ≤ HIGHEST_PREFERENCE)
-DirectsInRange (Propose node epoch) = IsNumber node × (1 ≤ epoch) × (epoch ≤ HIGHEST_EPOCH)
-DirectsInRange (Drain times) = (1 ≤ times) × (times ≤ MOST_TIMES)
-DirectsInRange (Control number) = (1 ≤ number) × (number ≤ HIGHEST_MESSAGE)
-DirectsInRange (ControlAll times) = (1 ≤ times) × (times ≤ MOST_TIMES)
-DirectsInRange (Inject packet node p) = (1 ≤ packet) × (packet ≤ HIGHEST_PACKET) × IsNumber node × IsRange p
-DirectsInRange (Hop packet None) = (1 ≤ packet) × (packet ≤ HIGHEST_PACKET)
-DirectsInRange (Hop packet (Some times)) = (1 ≤ packet) × (packet ≤ HIGHEST_PACKET) × (1 ≤ times) × (times ≤ MOST_TIMES)
-DirectsInRange (Show view) = Unit {0}
-DirectsInRange (ShowEpoch view epoch) = (1 ≤ epoch) × (epoch ≤ HIGHEST_EPOCH)
-DirectsInRange (ShowWalk packet) = (1 ≤ packet) × (packet ≤ HIGHEST_PACKET)
+-- each number of these words is within its range
+abbrev pub RestInRange : Rest Range → Type 0
+RestInRange (Origin node p) = IsNumber node × IsRange p
+RestInRange (Single node) = IsNumber node
+RestInRange (Pair a b) = IsNumber a × IsNumber b
+RestInRange (Prefer node nbr value) = IsNumber node × IsNumber nbr × (value ≤ HIGHEST_PREFERENCE)
+RestInRange (Propose node epoch) = IsNumber node × (1 ≤ epoch) × (epoch ≤ HIGHEST_EPOCH)
+RestInRange (Drain times) = (1 ≤ times) × (times ≤ MOST_TIMES)
+RestInRange (Control number) = (1 ≤ number) × (number ≤ HIGHEST_MESSAGE)
+RestInRange (ControlAll times) = (1 ≤ times) × (times ≤ MOST_TIMES)
+RestInRange (Inject packet node p) = (1 ≤ packet) × (packet ≤ HIGHEST_PACKET) × IsNumber node × IsRange p
+RestInRange (Hop packet None) = (1 ≤ packet) × (packet ≤ HIGHEST_PACKET)
+RestInRange (Hop packet (Some times)) = (1 ≤ packet) × (packet ≤ HIGHEST_PACKET) × (1 ≤ times) × (times ≤ MOST_TIMES)
+RestInRange (Show view) = Unit {0}
+RestInRange (ShowEpoch view epoch) = (1 ≤ epoch) × (epoch ≤ HIGHEST_EPOCH)
+RestInRange (ShowWalk packet) = (1 ≤ packet) × (packet ≤ HIGHEST_PACKET)
+
+-- each number of a directive is within its range
+abbrev pub DirectsInRange : Directive Range → Type 0
+DirectsInRange directive = RestInRange (rest_of directive)
 
 abbrev pub InRange : Line → Type 0
 InRange Blank = Unit {0}
 InRange Begin = Unit {0}
 InRange (Declares declaration) = DeclaresInRange declaration
-InRange (Directs instruction) = DirectsInRange instruction
+InRange (Directs directive) = DirectsInRange directive
 
 -- these words are the spelling of the line
 pub record Spells (words : List (List ℕ)) (line : Line) : Type 0 where

@@ -1,5 +1,5 @@
 -- The text that `print` writes for a schedule, and what it means that a text is read as the same schedule.
-use Rattle.std.specs.Prelude.{ℕ, ◌≡◌, List, [], ◌∷◌, ◌++◌, map, Option, Some, None, option_map, find, codes, if◌then◌else◌}
+use Rattle.std.specs.Prelude.{ℕ, ◌≡◌, List, [], ◌∷◌, ◌++◌, map, Option, Some, None, option_map, unwrap_or, slice_get, find, codes, if◌then◌else◌}
 use Rattle.std.specs.List.{flat_map, join_with_byte}
 use Rattle.topology.specs.declared.links.Link.{Link}
 use Rattle.topology.specs.declared.links.Pref.{Pref}
@@ -10,15 +10,19 @@ use Rattle.topology.specs.Net.{Net, neighbours, prefers, holds_back}
 use Rattle.schedule_file.specs.declared.lines.Line.{Line}
 use Rattle.schedule_file.specs.declared.lines.Line.TheVariants.{Begin, Declares, Directs}
 use Rattle.schedule_file.specs.declared.lines.Declaration.TheVariants as declares
-use Rattle.schedule_file.specs.declared.lines.Directive.{Directive}
+use Rattle.schedule_file.specs.declared.directives.Directive.{Directive}
 use Rattle.schedule_file.specs.declared.lines.Numbered.{Numbered}
 use Rattle.schedule_file.specs.declared.lines.Schedule.{Schedule}
 use Rattle.schedule_file.specs.Spelling.{words_by_line}
-use Rattle.schedule_file.specs.Table.{instruction_of}
+use Rattle.schedule_file.specs.Directives.{renamed}
 use Rattle.schedule_file.specs.Lines.{line_words}
 use Rattle.schedule_file.specs.Grammar.{Reads, net_of, directives_of}
 
--- the words of a line joined by spaces (32), and a newline
+-- the words with a space (32) before each
+abbrev pub spaced : List (List ℕ) → List ℕ
+spaced words = flat_map (λ word. 32 ∷ word) words
+
+-- the words of a line joined by spaces, and a newline
 abbrev pub line_text : Line → List ℕ
 line_text line = join_with_byte 32 (line_words line) ++ codes "\n"
 
@@ -69,9 +73,17 @@ held net u w = if holds_back net u w then record { a = u; b = w } ∷ [] else []
 abbrev pub sorted_holds : Net → List Hold
 sorted_holds net = flat_map (λ u. flat_map (held net u) (neighbours net u)) (ascending net.nodes)
 
+-- the prefix at a place in file order; any prefix where there is none
+abbrev pub prefix_at : Net → ℕ → Range
+prefix_at net place = unwrap_or (slice_get net.prefixes place) (record { bits = 0; len = 0 })
+
+-- the directive with the prefix itself
+abbrev pub prefixed : Net → Directive ℕ → Directive Range
+prefixed net directive = renamed (prefix_at net) directive
+
 -- the line of a directive
 abbrev pub directive_line : Net → Numbered → Line
-directive_line net numbered = Directs (instruction_of net numbered.directive)
+directive_line net numbered = Directs (prefixed net numbered.directive)
 
 -- the lines up to begin: nodes, links and prefixes in file order, the preferences, the holds, then the hop limit and
 -- the scheme
@@ -99,7 +111,7 @@ pub record SameNet (net other : Net) : Type 0 where
   pub scheme : other.scheme ≡ net.scheme
 
 -- the directives without the line numbers
-abbrev pub unnumbered : List Numbered → List Directive
+abbrev pub unnumbered : List Numbered → List (Directive ℕ)
 unnumbered directives = map (λ numbered. numbered.directive) directives
 
 -- the same schedule, except for the line numbers

@@ -4,7 +4,11 @@ use Rattle.topology.specs.declared.building.BuildError.{BuildError}
 use Rattle.topology.specs.declared.building.BuildError.TheVariants as building
 use Rattle.topology.specs.declared.status.BadKind.{BadKind}
 use Rattle.topology.specs.declared.status.BadKind.TheVariants as bad
+use Rattle.topology.specs.declared.prefixes.Prefix.{Prefix as Range}
+use Rattle.topology.specs.Net.{Net}
 use Rattle.schedule_file.specs.declared.lines.Line.{Line}
+use Rattle.schedule_file.specs.declared.directives.Rest.{Rest}
+use Rattle.schedule_file.specs.declared.directives.Rest.TheVariants.{Origin, Inject}
 use Rattle.schedule_file.specs.declared.parser.Draft.{Draft}
 use Rattle.schedule_file.specs.declared.table.Part.{Part}
 use Rattle.schedule_file.specs.declared.table.Keyword.{Keyword}
@@ -14,8 +18,8 @@ use Rattle.schedule_file.specs.declared.names.Refusal.TheVariants.{NoMemory, Bad
 use Rattle.schedule_file.specs.Spelling.{words_by_line}
 use Rattle.schedule_file.specs.Lines.{Spells}
 use Rattle.schedule_file.specs.Words.{word_at}
-use Rattle.schedule_file.specs.Grammar.{net_of, part_in, directives_of, allowed, name_fault, ReadsIn}
-use Rattle.schedule_file.specs.Table.{fields, first_fault}
+use Rattle.schedule_file.specs.Grammar.{net_of, place_in, part_in, directives_of, allowed, name_fault, ReadsIn}
+use Rattle.schedule_file.specs.Table.{keyword_text, fields, first_fault}
 use Rattle.schedule_file.specs.Refusals.{refusal, form_fault, line_by}
 
 -- lists of lines are newest first
@@ -28,10 +32,20 @@ pub record Holds (words : Words) (all : List (List ℕ)) : Type 0 where
   pub three : words.third.now ≡ word_at 2 all
   pub four : words.fourth.now ≡ word_at 3 all
 
--- the reader returns the line of a keyword and the words after it, or their first fault
+-- the reader returns the line of a keyword, its first word and the words after it, or their first fault
+abbrev pub ReadsFrom : Keyword → List ℕ → List (List ℕ) → Result Line BadKind → Type 0
+ReadsFrom keyword word words (Ok line) = (line ≡ line_by keyword word words) × (first_fault (fields keyword words) words ≡ None)
+ReadsFrom keyword word words (Err kind) = first_fault (fields keyword words) words ≡ Some kind
+
+-- the same for a keyword of one first word
 abbrev pub ReadsAs : Keyword → List (List ℕ) → Result Line BadKind → Type 0
-ReadsAs keyword words (Ok line) = (line ≡ line_by keyword words) × (first_fault (fields keyword words) words ≡ None)
-ReadsAs keyword words (Err kind) = first_fault (fields keyword words) words ≡ Some kind
+ReadsAs keyword words result = ReadsFrom keyword (keyword_text keyword) words result
+
+-- the place of the prefix among these words, if there is one
+abbrev pub place_of : Net → Rest Range → ℕ
+place_of net (Origin node p) = place_in p net.prefixes
+place_of net (Inject packet node p) = place_in p net.prefixes
+place_of net other = 0
 
 -- the check of a line's form returns no fault, or the first one
 abbrev pub HasForm : {T : Type 0} → Part → Keyword → List (List ℕ) → Result T BadKind → Type 0

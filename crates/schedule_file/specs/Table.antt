@@ -1,22 +1,13 @@
 -- The table of the grammar: each word that begins a line, how many words such a line has, on which side of begin it
--- stands, which words may follow the first, and its directive, both ways.
-use Rattle.std.specs.Prelude.{ℕ, Bool, true, false, ◌&&◌, nat_le, is_some, List, [], ◌∷◌, ◌++◌, Option, Some, None, unwrap_or, slice_get, codes, bytes_eq, if◌then◌else◌}
+-- stands, and which words may follow the first.
+use Rattle.std.specs.Prelude.{ℕ, Bool, true, false, ◌&&◌, nat_le, is_some, List, [], ◌∷◌, ◌++◌, map, Option, Some, None, codes, bytes_eq, if◌then◌else◌}
 use Rattle.std.specs.List.{find}
-use Rattle.topology.specs.declared.prefixes.Prefix.{Prefix as Range}
 use Rattle.topology.specs.declared.status.BadKind.{BadKind}
 use Rattle.topology.specs.declared.status.BadKind.TheVariants.{UnknownWord, WrongCount, BadNumber, BadPrefix}
-use Rattle.schedule_file.specs.declared.lines.Directive.{Directive}
-use Rattle.schedule_file.specs.declared.lines.Directive.TheVariants as directive
-use Rattle.schedule_file.specs.declared.lines.Instruction.{Instruction}
-use Rattle.schedule_file.specs.declared.lines.Instruction.TheVariants as instruction
+use Rattle.schedule_file.specs.declared.directives.Directive.{Directive}
+use Rattle.schedule_file.specs.declared.directives.Directive.TheVariants as directive
 use Rattle.schedule_file.specs.declared.table.Keyword.{Keyword}
 use Rattle.schedule_file.specs.declared.table.Keyword.TheVariants.{Node, Link, Pref, Hold, Prefix, Hops, Transient, Begin, Origin, Single, Pair, Prefer, Propose, Drain, Control, Inject, Hop, Show}
-use Rattle.schedule_file.specs.declared.table.OriginVerb.{OriginVerb}
-use Rattle.schedule_file.specs.declared.table.OriginVerb.TheVariants.{Originate, Withdraw, Probe}
-use Rattle.schedule_file.specs.declared.table.NodeEvent.{NodeEvent}
-use Rattle.schedule_file.specs.declared.table.NodeEvent.TheVariants.{Snap, Crash, Restart}
-use Rattle.schedule_file.specs.declared.table.PairEvent.{PairEvent}
-use Rattle.schedule_file.specs.declared.table.PairEvent.TheVariants.{Deliver, Fail, Restore, Notice, Open, Flush}
 use Rattle.schedule_file.specs.declared.table.PlainView.{PlainView}
 use Rattle.schedule_file.specs.declared.table.PlainView.TheVariants as plain
 use Rattle.schedule_file.specs.declared.table.EpochView.{EpochView}
@@ -28,51 +19,9 @@ use Rattle.schedule_file.specs.declared.table.SchemeName.TheVariants.{Deflect, D
 use Rattle.schedule_file.specs.declared.table.Part.{Part}
 use Rattle.schedule_file.specs.declared.table.Part.TheVariants.{Network, Run, Over}
 use Rattle.schedule_file.specs.declared.table.Shape.{Shape}
-use Rattle.topology.specs.Net.{Net}
 use Rattle.topology.specs.declared.limits.TheConstants.{HIGHEST_NODE, HIGHEST_PREFERENCE, HIGHEST_HOPS, MOST_TIMES, HIGHEST_MESSAGE, HIGHEST_PACKET, HIGHEST_EPOCH}
+use Rattle.schedule_file.specs.Directives.{first_word, origin_events, node_events, pair_events}
 use Rattle.schedule_file.specs.Words.{has_word, word_at, spells_number, spells_prefix}
-
--- the word of a verb about a node and a prefix
-abbrev pub origin_text : OriginVerb → List ℕ
-origin_text Originate = codes "originate"
-origin_text Withdraw = codes "withdraw"
-origin_text Probe = codes "probe"
-
--- its directive
-abbrev pub origin_directive : OriginVerb → ℕ → ℕ → Directive
-origin_directive Originate node prefix = directive.Originate node prefix
-origin_directive Withdraw node prefix = directive.Withdraw node prefix
-origin_directive Probe node prefix = directive.Probe node prefix
-
--- the word of an event of one node
-abbrev pub node_text : NodeEvent → List ℕ
-node_text Snap = codes "snap"
-node_text Crash = codes "crash"
-node_text Restart = codes "restart"
-
--- its directive
-abbrev pub node_directive : NodeEvent → ℕ → Directive
-node_directive Snap node = directive.Snap node
-node_directive Crash node = directive.Crash node
-node_directive Restart node = directive.Restart node
-
--- the word of an event of two nodes with a link
-abbrev pub pair_text : PairEvent → List ℕ
-pair_text Deliver = codes "deliver"
-pair_text Fail = codes "fail"
-pair_text Restore = codes "restore"
-pair_text Notice = codes "notice"
-pair_text Open = codes "open"
-pair_text Flush = codes "flush"
-
--- its directive
-abbrev pub pair_directive : PairEvent → ℕ → ℕ → Directive
-pair_directive Deliver a b = directive.Deliver a b
-pair_directive Fail a b = directive.Fail a b
-pair_directive Restore a b = directive.Restore a b
-pair_directive Notice a b = directive.Notice a b
-pair_directive Open a b = directive.OpenSession a b
-pair_directive Flush a b = directive.Flush a b
 
 -- the word of a view of the run so far
 abbrev pub plain_text : PlainView → List ℕ
@@ -80,56 +29,11 @@ plain_text plain.Rib = codes "rib"
 plain_text plain.Log = codes "log"
 plain_text plain.Control = codes "ctl"
 
--- its directive
-abbrev pub plain_directive : PlainView → Directive
-plain_directive plain.Rib = directive.ShowRib
-plain_directive plain.Log = directive.ShowLog
-plain_directive plain.Control = directive.ShowControl
-
 -- the word of a view of one epoch
 abbrev pub epoch_text : EpochView → List ℕ
 epoch_text Cut = codes "cut"
 epoch_text Closure = codes "closure"
 epoch_text Tables = codes "tables"
-
--- its directive
-abbrev pub epoch_directive : EpochView → ℕ → Directive
-epoch_directive Cut epoch = directive.ShowCut epoch
-epoch_directive Closure epoch = directive.ShowClosure epoch
-epoch_directive Tables epoch = directive.ShowTables epoch
-
--- the prefix at a place in file order; any prefix where there is none
-abbrev pub prefix_at : Net → ℕ → Range
-prefix_at net place = unwrap_or (slice_get net.prefixes place) (record { bits = 0; len = 0 })
-
--- the instruction of a directive, with the prefix itself
-abbrev pub instruction_of : Net → Directive → Instruction
-instruction_of net (directive.Originate node place) = instruction.Origin Originate node (prefix_at net place)
-instruction_of net (directive.Withdraw node place) = instruction.Origin Withdraw node (prefix_at net place)
-instruction_of net (directive.Probe node place) = instruction.Origin Probe node (prefix_at net place)
-instruction_of net (directive.Prefer node nbr value) = instruction.Prefer node nbr value
-instruction_of net (directive.Deliver a b) = instruction.Pair Deliver a b
-instruction_of net (directive.Fail a b) = instruction.Pair Fail a b
-instruction_of net (directive.Restore a b) = instruction.Pair Restore a b
-instruction_of net (directive.Notice a b) = instruction.Pair Notice a b
-instruction_of net (directive.OpenSession a b) = instruction.Pair Open a b
-instruction_of net (directive.Flush a b) = instruction.Pair Flush a b
-instruction_of net (directive.Snap node) = instruction.Single Snap node
-instruction_of net (directive.Crash node) = instruction.Single Crash node
-instruction_of net (directive.Restart node) = instruction.Single Restart node
-instruction_of net (directive.Propose node epoch) = instruction.Propose node epoch
-instruction_of net (directive.Drain times) = instruction.Drain times
-instruction_of net (directive.Control number) = instruction.Control number
-instruction_of net (directive.ControlAll times) = instruction.ControlAll times
-instruction_of net (directive.Inject packet node place) = instruction.Inject packet node (prefix_at net place)
-instruction_of net (directive.Hop packet times) = instruction.Hop packet times
-instruction_of net directive.ShowRib = instruction.Show plain.Rib
-instruction_of net directive.ShowLog = instruction.Show plain.Log
-instruction_of net directive.ShowControl = instruction.Show plain.Control
-instruction_of net (directive.ShowCut epoch) = instruction.ShowEpoch Cut epoch
-instruction_of net (directive.ShowClosure epoch) = instruction.ShowEpoch Closure epoch
-instruction_of net (directive.ShowTables epoch) = instruction.ShowEpoch Tables epoch
-instruction_of net (directive.ShowWalk packet) = instruction.ShowWalk packet
 
 -- the word after show
 abbrev pub view_text : View → List ℕ
@@ -157,26 +61,34 @@ schemes = Deflect ∷ Detour ∷ Backup ∷ []
 abbrev pub scheme_in : List ℕ → Option SchemeName
 scheme_in word = find (λ name. bytes_eq word (scheme_text name)) schemes
 
--- the first word of a line of this kind
+-- the first words of these directives; what names a prefix does not matter
+abbrev pub first_words : List (Directive ℕ) → List (List ℕ)
+first_words ds = map first_word ds
+
+-- the words that begin a line of this kind
+abbrev pub keyword_words : Keyword → List (List ℕ)
+keyword_words Node = codes "node" ∷ []
+keyword_words Link = codes "link" ∷ []
+keyword_words Pref = codes "pref" ∷ []
+keyword_words Hold = codes "hold" ∷ []
+keyword_words Prefix = codes "prefix" ∷ []
+keyword_words Hops = codes "hops" ∷ []
+keyword_words Transient = codes "transient" ∷ []
+keyword_words Begin = codes "begin" ∷ []
+keyword_words Origin = first_words (origin_events 0 0)
+keyword_words Single = first_words (node_events 0)
+keyword_words Pair = first_words (pair_events 0 0)
+keyword_words Prefer = first_words (directive.Prefer 0 0 0 ∷ [])
+keyword_words Propose = first_words (directive.Propose 0 0 ∷ [])
+keyword_words Drain = first_words (directive.Drain 0 ∷ [])
+keyword_words Control = first_words (directive.Control 0 ∷ [])
+keyword_words Inject = first_words (directive.Inject 0 0 0 ∷ [])
+keyword_words Hop = first_words (directive.Hop 0 None ∷ [])
+keyword_words Show = first_words (directive.ShowRib ∷ [])
+
+-- the first of them, which is the only one for all but events
 abbrev pub keyword_text : Keyword → List ℕ
-keyword_text Node = codes "node"
-keyword_text Link = codes "link"
-keyword_text Pref = codes "pref"
-keyword_text Hold = codes "hold"
-keyword_text Prefix = codes "prefix"
-keyword_text Hops = codes "hops"
-keyword_text Transient = codes "transient"
-keyword_text Begin = codes "begin"
-keyword_text (Origin event) = origin_text event
-keyword_text (Single event) = node_text event
-keyword_text (Pair event) = pair_text event
-keyword_text Prefer = codes "prefer"
-keyword_text Propose = codes "propose"
-keyword_text Drain = codes "drain"
-keyword_text Control = codes "ctl"
-keyword_text Inject = codes "inject"
-keyword_text Hop = codes "hop"
-keyword_text Show = codes "show"
+keyword_text keyword = word_at 0 (keyword_words keyword)
 
 -- the keywords of the first part, with begin
 abbrev pub network_keywords : List Keyword
@@ -184,10 +96,7 @@ network_keywords = Node ∷ Link ∷ Pref ∷ Hold ∷ Prefix ∷ Hops ∷ Trans
 
 -- those of the second part that only names follow
 abbrev pub event_keywords : List Keyword
-event_keywords =
-    Origin Originate ∷ Origin Withdraw ∷ Origin Probe
-    ∷ Single Snap ∷ Single Crash ∷ Single Restart
-    ∷ Pair Deliver ∷ Pair Fail ∷ Pair Restore ∷ Pair Notice ∷ Pair Open ∷ Pair Flush ∷ []
+event_keywords = Origin ∷ Single ∷ Pair ∷ []
 
 -- the others of the second part
 abbrev pub order_keywords : List Keyword
@@ -198,7 +107,7 @@ keywords = network_keywords ++ (event_keywords ++ order_keywords)
 
 -- the kind of line that begins with this word
 abbrev pub keyword_in : List ℕ → Option Keyword
-keyword_in word = find (λ keyword. bytes_eq word (keyword_text keyword)) keywords
+keyword_in word = find (λ keyword. has_word (keyword_words keyword) word) keywords
 
 -- a line before begin, with from `least` to `most` words
 abbrev pub declares : ℕ → ℕ → Shape
@@ -218,9 +127,9 @@ shape_of Prefix = declares 2 2
 shape_of Hops = declares 2 2
 shape_of Transient = declares 2 3
 shape_of Begin = declares 1 1
-shape_of (Origin event) = directs 3 3
-shape_of (Single event) = directs 2 2
-shape_of (Pair event) = directs 3 3
+shape_of Origin = directs 3 3
+shape_of Single = directs 2 2
+shape_of Pair = directs 3 3
 shape_of Prefer = directs 4 4
 shape_of Propose = directs 3 3
 shape_of Drain = directs 2 2
@@ -291,9 +200,9 @@ fields Prefix words = Masked ∷ []
 fields Hops words = HopLimit ∷ []
 fields Transient words = scheme_fields (scheme_in (word_at 0 words))
 fields Begin words = []
-fields (Origin event) words = NodeNumber ∷ Masked ∷ []
-fields (Single event) words = NodeNumber ∷ []
-fields (Pair event) words = NodeNumber ∷ NodeNumber ∷ []
+fields Origin words = NodeNumber ∷ Masked ∷ []
+fields Single words = NodeNumber ∷ []
+fields Pair words = NodeNumber ∷ NodeNumber ∷ []
 fields Prefer words = NodeNumber ∷ NodeNumber ∷ Value ∷ []
 fields Propose words = NodeNumber ∷ EpochNumber ∷ []
 fields Drain words = Times ∷ []

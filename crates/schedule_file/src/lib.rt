@@ -50,6 +50,7 @@
 //! with three it takes the word `all` and a number. `hop` takes one number or two.
 #![tactic(auto)]
 
+pub mod directives;
 pub mod laws;
 pub mod lines;
 pub mod names;
@@ -61,6 +62,7 @@ pub mod spelling;
 pub mod table;
 pub mod words;
 
-pub use lines::{Declaration, Directive, Instruction, Line, Numbered, Schedule};
+pub use directives::Directive;
+pub use lines::{Declaration, Line, Numbered, Schedule};
 pub use parser::{ParseEnd, parse, parse_topology};
 pub use printing::print;

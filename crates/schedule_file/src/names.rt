@@ -2,10 +2,11 @@
 ghost use Rattle.std.specs.Prelude.{◌≡◌, None, Some, IfOk, OnOk, IfErr};
 ghost use Rattle.schedule_file.specs.declared.names.Refusal.TheVariants.{Bad};
 ghost use Rattle.schedule_file.specs.Lines.{DeclaresInRange};
-ghost use Rattle.schedule_file.specs.Grammar.{with_declaration, place_in, directive_of, origin_fault, node_fault, pair_fault, neighbour_fault, declared_fault, directed_fault};
-ghost use Rattle.schedule_file.specs.Standing.{refusal_of, NamesFault};
+ghost use Rattle.schedule_file.specs.Grammar.{with_declaration, place_in, directive_of, origin_fault, node_fault, pair_fault, neighbour_fault, declared_fault, rest_fault, directed_fault};
+ghost use Rattle.schedule_file.specs.Standing.{refusal_of, NamesFault, place_of};
 
-use crate::lines::{Declaration, Directive, Instruction};
+use crate::directives::{Directive, Rest};
+use crate::lines::Declaration;
 use topology::laws::relations_are_converse;
 use topology::{BadKind, BuildError, NodeId, Prefix, PrefixId, Topology};
 
@@ -124,48 +125,31 @@ fn check_neighbour(topology: &Topology, node: NodeId, nbr: NodeId) -> Result<(),
     Ok(())
 }
 
-/// The directive of the instruction, with its names looked up.
-pub fn look_up(topology: &Topology, instruction: &Instruction) -> Result<Directive, BadKind>
-    ensures ok { IfOk result (λ directive. directive ≡ directive_of topology.now instruction.now) }
-    ensures fine { OnOk result (directed_fault topology.now instruction.now ≡ None) }
-    ensures err { IfErr result (λ kind. directed_fault topology.now instruction.now ≡ Some kind) }
+// The place of the prefix among these words, if all names are declared. Without a prefix the place does not matter.
+fn look_up_rest(topology: &Topology, rest: &Rest<Prefix>) -> Result<PrefixId, BadKind>
+    ensures ok { IfOk result (λ place. place ≡ place_of topology.now rest.now) }
+    ensures fine { OnOk result (rest_fault topology.now rest.now ≡ None) }
+    ensures err { IfErr result (λ kind. rest_fault topology.now rest.now ≡ Some kind) }
 {
-    match *instruction {
-        Instruction::Origin(verb, node, prefix) => Ok(verb.directive(
-            node,
-            origin(topology, node, prefix)?,
-        )),
-        Instruction::Single(event, node) => {
-            check_node(topology, node)?;
-            Ok(event.directive(node))
+    match *rest {
+        Rest::Origin(node, prefix) | Rest::Inject(_, node, prefix) => {
+            return origin(topology, node, prefix);
         }
-        Instruction::Pair(event, a, b) => {
-            check_pair(topology, a, b)?;
-            Ok(event.directive(a, b))
-        }
-        Instruction::Prefer { node, nbr, value } => {
-            check_neighbour(topology, node, nbr)?;
-            Ok(Directive::Prefer { node, nbr, value })
-        }
-        Instruction::Propose { node, epoch } => {
-            check_node(topology, node)?;
-            Ok(Directive::Propose { node, epoch })
-        }
-        Instruction::Drain { times } => Ok(Directive::Drain { times }),
-        Instruction::Control { number } => Ok(Directive::Control { number }),
-        Instruction::ControlAll { times } => Ok(Directive::ControlAll { times }),
-        Instruction::Inject {
-            packet,
-            node,
-            prefix,
-        } => Ok(Directive::Inject {
-            packet,
-            node,
-            prefix: origin(topology, node, prefix)?,
-        }),
-        Instruction::Hop { packet, times } => Ok(Directive::Hop { packet, times }),
-        Instruction::Show(view) => Ok(view.directive()),
-        Instruction::ShowEpoch(view, epoch) => Ok(view.directive(epoch)),
-        Instruction::ShowWalk(packet) => Ok(Directive::ShowWalk(packet)),
+        Rest::Single(node) | Rest::Propose(node, _) => check_node(topology, node)?,
+        Rest::Pair(a, b) => check_pair(topology, a, b)?,
+        Rest::Prefer(node, nbr, _) => check_neighbour(topology, node, nbr)?,
+        _ => {}
     }
+    Ok(PrefixId::new(0))
+}
+
+/// The directive with its names looked up.
+pub fn look_up(topology: &Topology, directive: &Directive<Prefix>) -> Result<Directive, BadKind>
+    ensures ok { IfOk result (λ found. found ≡ directive_of topology.now directive.now) }
+    ensures fine { OnOk result (directed_fault topology.now directive.now ≡ None) }
+    ensures err { IfErr result (λ kind. directed_fault topology.now directive.now ≡ Some kind) }
+{
+    let (_, rest) = directive.spelling();
+    let place = look_up_rest(topology, &rest)?;
+    Ok(directive.with_prefix(place))
 }

@@ -3,7 +3,7 @@ ghost use Rattle.std.specs.Prelude.{ℕ, suc, ◌≡◌, ◌≤◌, ◌<◌, ◌
 ghost use Rattle.text_lines.specs.Words.{words_of};
 ghost use Rattle.topology.specs.declared.status.BadKind.{BadKind};
 ghost use Rattle.topology.specs.Net.{Net};
-ghost use Rattle.schedule_file.specs.Grammar.{IsRead, IsFile, IsTopologyFile, AreInstructed, stands};
+ghost use Rattle.schedule_file.specs.Grammar.{IsRead, IsFile, IsTopologyFile, AreDirected, stands};
 ghost use Rattle.schedule_file.specs.Refusals.{FirstBad, FirstBadOfTopology};
 ghost use Rattle.schedule_file.specs.Standing.{IsAfter, Takes, Refuses, TakesLine, RefusesLine, TakesText};
 ghost use Rattle.schedule_file.specs.Ends.{SaysWhy, IsWantOfMemory, IsBadOrMemory};
@@ -66,8 +66,8 @@ impl Draft {
             Line::Blank => {}
             Line::Begin => self.part = self.behind,
             Line::Declares(declaration) => declare(&mut self.schedule.topology, declaration)?,
-            Line::Directs(instruction) => {
-                let directive = look_up(&self.schedule.topology, instruction)?;
+            Line::Directs(directive) => {
+                let directive = look_up(&self.schedule.topology, directive)?;
                 let numbered = Numbered {
                     line: number,
                     directive,
@@ -142,7 +142,7 @@ pub fn parse(alloc: Global, text: &[u8]) -> Result<Schedule, ParseEnd>
     ensures ok { IfOk result (IsFile text.now) }
     ensures err { IfErr result (SaysWhy Run text.now) }
     // directives name only what the network has
-    ensures follow { IfOk result (λ schedule. AreInstructed schedule.topology schedule.lines.items) }
+    ensures follow { IfOk result (λ schedule. AreDirected schedule.topology schedule.lines.items) }
     // a valid file is refused only if memory runs out
     ensures complete { (schedule : Schedule) → IsFile text.now schedule → IfErr result IsWantOfMemory }
     // the first bad line is named, unless memory runs out before

@@ -5,13 +5,13 @@ ghost use Rattle.std.specs.String.{string_bytes};
 ghost use Rattle.topology.specs.Lists.{ascending};
 ghost use Rattle.topology.specs.Net.{neighbours};
 ghost use Rattle.schedule_file.specs.Grammar.{IsFile};
-ghost use Rattle.schedule_file.specs.Printing.{line_text, node_line, link_line, prefix_line, pref_line, hold_line, packet_lines, added, sorted_preferences, held, sorted_holds, directive_line, network_lines, printed, IsFileAgain};
+ghost use Rattle.schedule_file.specs.Printing.{line_text, node_line, link_line, prefix_line, pref_line, hold_line, packet_lines, added, sorted_preferences, held, sorted_holds, prefix_at, prefixed, directive_line, network_lines, printed, IsFileAgain};
 
+use crate::directives::{Directive, Rest};
 use crate::lines::{Declaration, Line, Schedule};
 use crate::spelling::push_line;
-use crate::table::instruction_of;
 use std::alloc::{AllocError, Global};
-use topology::{NoMemory, NodeId, PrefixId, Topology};
+use topology::{NoMemory, NodeId, Prefix, PrefixId, Topology};
 
 // The nodes, in file order.
 fn node_lines(out: &mut String, topology: &Topology) -> Result<(), AllocError>
@@ -155,14 +155,36 @@ fn network_text(out: &mut String, topology: &Topology) -> Result<(), AllocError>
     packet_lines(out, topology)
 }
 
+// The prefix at a place. If there is none, the answer does not matter.
+fn prefix_at(topology: &Topology, place: PrefixId) -> Prefix
+    ensures { result ≡ prefix_at topology.now place }
+{
+    match topology.prefix(place) {
+        Some(prefix) => prefix,
+        None => Prefix { bits: 0, len: 0 },
+    }
+}
+
+// The directive with the prefix itself.
+fn prefixed(topology: &Topology, directive: &Directive) -> Directive<Prefix>
+    ensures { result ≡ prefixed topology.now directive.now }
+{
+    let place = match directive.spelling() {
+        (_, Rest::Origin(_, place) | Rest::Inject(_, _, place)) => place,
+        // there is no prefix, and the place does not matter
+        _ => PrefixId::new(0),
+    };
+    directive.with_prefix(prefix_at(topology, place))
+}
+
 // The lines after `begin`.
 fn directive_lines(out: &mut String, schedule: &Schedule) -> Result<(), AllocError>
     ensures { OnOk result (string_bytes out.new ≡ string_bytes out.old
         ++ flat_map line_text (map (directive_line schedule.now.topology) schedule.now.lines.items)) }
 {
     for numbered in &schedule.lines {
-        let instruction = instruction_of(&schedule.topology, &numbered.directive);
-        push_line(out, &Line::Directs(instruction))?;
+        let directive = prefixed(&schedule.topology, &numbered.directive);
+        push_line(out, &Line::Directs(directive))?;
     }
     Ok(())
 }

@@ -4,13 +4,14 @@ ghost use Rattle.schedule_file.specs.declared.lines.Line.TheVariants.{Declares};
 ghost use Rattle.schedule_file.specs.declared.lines.Declaration.TheVariants as declares;
 ghost use Rattle.schedule_file.specs.declared.table.Keyword.TheVariants as keyword;
 ghost use Rattle.schedule_file.specs.Lines.{Spells};
-ghost use Rattle.schedule_file.specs.Table.{shape_of, may_have};
+ghost use Rattle.schedule_file.specs.Table.{keyword_in, shape_of, may_have};
 ghost use Rattle.schedule_file.specs.Grammar.{stands};
 ghost use Rattle.schedule_file.specs.Refusals.{word_fault};
-ghost use Rattle.schedule_file.specs.Standing.{Holds, ReadsAs, HasForm};
+ghost use Rattle.schedule_file.specs.Standing.{Holds, ReadsFrom, ReadsAs, HasForm};
 
-use crate::lines::{Declaration, Instruction, Line};
-use crate::table::{Keyword, NodeEvent, OriginVerb, PairEvent, Part, SchemeName, Shape, View};
+use crate::directives::{Directive, node_event, origin_event, pair_event};
+use crate::lines::{Declaration, Line};
+use crate::table::{Keyword, Part, SchemeName, Shape, View};
 use crate::words::{
     Words, epoch_of, hops_of, keyword_of, message_of, node_of, packet_of, prefix_of, relation_of,
     scheme_of, times_of, value_of, view_of,
@@ -142,30 +143,42 @@ fn transient_more_line(name: &[u8], more: &[u8]) -> Result<Line, BadKind>
     }
 }
 
-// The line of a verb, from the words after it.
-fn origin_line(verb: OriginVerb, node: &[u8], prefix: &[u8]) -> Result<Line, BadKind>
-    ensures { ReadsAs (keyword.Origin verb) (node.now ∷ prefix.now ∷ []) result }
+// The line of an event of a node and a prefix, from its words.
+fn origin_line(word: &[u8], node: &[u8], prefix: &[u8]) -> Result<Line, BadKind>
+    requires { keyword_in word.now ≡ Some keyword.Origin }
+    ensures { ReadsFrom keyword.Origin word.now (node.now ∷ prefix.now ∷ []) result }
 {
     let node = node_of(node)?;
     let prefix = prefix_of(prefix)?;
-    Ok(Line::Directs(Instruction::Origin(verb, node, prefix)))
+    match origin_event(word, node, prefix) {
+        Some(event) => Ok(Line::Directs(event)),
+        None => Err(BadKind::UnknownWord),
+    }
 }
 
-// The line of an event of one node, from the word after it.
-fn single_line(event: NodeEvent, node: &[u8]) -> Result<Line, BadKind>
-    ensures { ReadsAs (keyword.Single event) (node.now ∷ []) result }
+// The line of an event of one node, from its words.
+fn single_line(word: &[u8], node: &[u8]) -> Result<Line, BadKind>
+    requires { keyword_in word.now ≡ Some keyword.Single }
+    ensures { ReadsFrom keyword.Single word.now (node.now ∷ []) result }
 {
     let node = node_of(node)?;
-    Ok(Line::Directs(Instruction::Single(event, node)))
+    match node_event(word, node) {
+        Some(event) => Ok(Line::Directs(event)),
+        None => Err(BadKind::UnknownWord),
+    }
 }
 
-// The line of an event of two nodes, from the words after it.
-fn pair_line(event: PairEvent, a: &[u8], b: &[u8]) -> Result<Line, BadKind>
-    ensures { ReadsAs (keyword.Pair event) (a.now ∷ b.now ∷ []) result }
+// The line of an event of two nodes, from its words.
+fn pair_line(word: &[u8], a: &[u8], b: &[u8]) -> Result<Line, BadKind>
+    requires { keyword_in word.now ≡ Some keyword.Pair }
+    ensures { ReadsFrom keyword.Pair word.now (a.now ∷ b.now ∷ []) result }
 {
     let a = node_of(a)?;
     let b = node_of(b)?;
-    Ok(Line::Directs(Instruction::Pair(event, a, b)))
+    match pair_event(word, a, b) {
+        Some(event) => Ok(Line::Directs(event)),
+        None => Err(BadKind::UnknownWord),
+    }
 }
 
 // The line `prefer` from the words after it.
@@ -175,7 +188,7 @@ fn prefer_line(node: &[u8], nbr: &[u8], value: &[u8]) -> Result<Line, BadKind>
     let node = node_of(node)?;
     let nbr = node_of(nbr)?;
     let value = value_of(value)?;
-    Ok(Line::Directs(Instruction::Prefer { node, nbr, value }))
+    Ok(Line::Directs(Directive::Prefer { node, nbr, value }))
 }
 
 // The line `propose` from the words after it.
@@ -184,7 +197,7 @@ fn propose_line(node: &[u8], epoch: &[u8]) -> Result<Line, BadKind>
 {
     let node = node_of(node)?;
     let epoch = epoch_of(epoch)?;
-    Ok(Line::Directs(Instruction::Propose { node, epoch }))
+    Ok(Line::Directs(Directive::Propose { node, epoch }))
 }
 
 // The line `drain` from the word after it.
@@ -192,7 +205,7 @@ fn drain_line(times: &[u8]) -> Result<Line, BadKind>
     ensures { ReadsAs keyword.Drain (times.now ∷ []) result }
 {
     let times = times_of(times)?;
-    Ok(Line::Directs(Instruction::Drain { times }))
+    Ok(Line::Directs(Directive::Drain { times }))
 }
 
 // The line `ctl` with one more word.
@@ -200,7 +213,7 @@ fn control_line(number: &[u8]) -> Result<Line, BadKind>
     ensures { ReadsAs keyword.Control (number.now ∷ []) result }
 {
     let number = message_of(number)?;
-    Ok(Line::Directs(Instruction::Control { number }))
+    Ok(Line::Directs(Directive::Control { number }))
 }
 
 // The line `ctl` with two more words.
@@ -211,7 +224,7 @@ fn control_all_line(all: &[u8], times: &[u8]) -> Result<Line, BadKind>
         return Err(BadKind::UnknownWord);
     }
     let times = times_of(times)?;
-    Ok(Line::Directs(Instruction::ControlAll { times }))
+    Ok(Line::Directs(Directive::ControlAll { times }))
 }
 
 // The line `inject` from the words after it.
@@ -221,7 +234,7 @@ fn inject_line(packet: &[u8], node: &[u8], prefix: &[u8]) -> Result<Line, BadKin
     let packet = packet_of(packet)?;
     let node = node_of(node)?;
     let prefix = prefix_of(prefix)?;
-    Ok(Line::Directs(Instruction::Inject {
+    Ok(Line::Directs(Directive::Inject {
         packet,
         node,
         prefix,
@@ -233,7 +246,7 @@ fn hop_line(packet: &[u8]) -> Result<Line, BadKind>
     ensures { ReadsAs keyword.Hop (packet.now ∷ []) result }
 {
     let packet = packet_of(packet)?;
-    Ok(Line::Directs(Instruction::Hop {
+    Ok(Line::Directs(Directive::Hop {
         packet,
         times: None,
     }))
@@ -245,7 +258,7 @@ fn hop_times_line(packet: &[u8], times: &[u8]) -> Result<Line, BadKind>
 {
     let packet = packet_of(packet)?;
     let times = times_of(times)?;
-    Ok(Line::Directs(Instruction::Hop {
+    Ok(Line::Directs(Directive::Hop {
         packet,
         times: Some(times),
     }))
@@ -256,7 +269,7 @@ fn show_line(view: &[u8]) -> Result<Line, BadKind>
     ensures { ReadsAs keyword.Show (view.now ∷ []) result }
 {
     match view_of(view)? {
-        View::Plain(view) => Ok(Line::Directs(Instruction::Show(view))),
+        View::Plain(view) => Ok(Line::Directs(view.directive())),
         View::OfEpoch(_) => Err(BadKind::WrongCount),
         View::Walk => Err(BadKind::WrongCount),
     }
@@ -270,20 +283,21 @@ fn show_more_line(view: &[u8], more: &[u8]) -> Result<Line, BadKind>
         View::Plain(_) => Err(BadKind::WrongCount),
         View::OfEpoch(view) => {
             let epoch = epoch_of(more)?;
-            Ok(Line::Directs(Instruction::ShowEpoch(view, epoch)))
+            Ok(Line::Directs(view.directive(epoch)))
         }
         View::Walk => {
             let packet = packet_of(more)?;
-            Ok(Line::Directs(Instruction::ShowWalk(packet)))
+            Ok(Line::Directs(Directive::ShowWalk(packet)))
         }
     }
 }
 
 // The line of a keyword, whose number of words was checked.
 fn line_of(keyword: Keyword, words: &Words<'_>) -> Result<Line, BadKind>
-    requires { may_have (shape_of keyword) words.now.count ≡ true }
+    requires named { keyword_in words.now.first.now ≡ Some keyword }
+    requires count { may_have (shape_of keyword) words.now.count ≡ true }
     ensures { (word : List ℕ) (rest : List (List ℕ)) → Holds words.now (word ∷ rest)
-        → ReadsAs keyword rest result }
+        → ReadsFrom keyword word rest result }
 {
     match keyword {
         Keyword::Node if words.count == 3 => consolidator_line(words.second, words.third),
@@ -296,9 +310,9 @@ fn line_of(keyword: Keyword, words: &Words<'_>) -> Result<Line, BadKind>
         Keyword::Transient if words.count == 3 => transient_more_line(words.second, words.third),
         Keyword::Transient => transient_line(words.second),
         Keyword::Begin => Ok(Line::Begin),
-        Keyword::Origin(verb) => origin_line(verb, words.second, words.third),
-        Keyword::Single(event) => single_line(event, words.second),
-        Keyword::Pair(event) => pair_line(event, words.second, words.third),
+        Keyword::Origin => origin_line(words.first, words.second, words.third),
+        Keyword::Single => single_line(words.first, words.second),
+        Keyword::Pair => pair_line(words.first, words.second, words.third),
         Keyword::Prefer => prefer_line(words.second, words.third, words.fourth),
         Keyword::Propose => propose_line(words.second, words.third),
         Keyword::Drain => drain_line(words.second),

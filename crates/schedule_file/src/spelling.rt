@@ -5,11 +5,11 @@ ghost use Rattle.std.specs.String.{string_bytes};
 ghost use Rattle.schedule_file.specs.declared.lines.Line.TheVariants.{Declares, Directs};
 ghost use Rattle.schedule_file.specs.declared.lines.Declaration.TheVariants.{Transient};
 ghost use Rattle.schedule_file.specs.Spelling.{prefix_text};
-ghost use Rattle.schedule_file.specs.Lines.{directing, line_words};
-ghost use Rattle.schedule_file.specs.Table.{keyword_text};
-ghost use Rattle.schedule_file.specs.Printing.{line_text};
+ghost use Rattle.schedule_file.specs.Lines.{rest_words, line_words};
+ghost use Rattle.schedule_file.specs.Printing.{spaced, line_text};
 
-use crate::lines::{Declaration, Instruction, Line};
+use crate::directives::{Directive, Rest};
+use crate::lines::{Declaration, Line};
 use crate::table::{SchemeName, relation_word};
 use itoa::Buffer;
 use std::alloc::AllocError;
@@ -152,69 +152,49 @@ fn push_declaration(out: &mut String, declaration: &Declaration) -> Result<(), A
     }
 }
 
-// The first word of an instruction's line.
-fn first_word(instruction: &Instruction) -> &'static str
-    ensures { result.now ≡ keyword_text (directing instruction.now) }
+// Adds what follows the first word of a directive's line.
+fn push_rest(out: &mut String, rest: &Rest<Prefix>) -> Result<(), AllocError>
+    ensures { OnOk result (string_bytes out.new ≡ string_bytes out.old ++ spaced (rest_words rest.now)) }
 {
-    match instruction {
-        Instruction::Origin(verb, ..) => verb.word(),
-        Instruction::Single(event, _) => event.word(),
-        Instruction::Pair(event, ..) => event.word(),
-        Instruction::Prefer { .. } => "prefer",
-        Instruction::Propose { .. } => "propose",
-        Instruction::Drain { .. } => "drain",
-        Instruction::Control { .. } | Instruction::ControlAll { .. } => "ctl",
-        Instruction::Inject { .. } => "inject",
-        Instruction::Hop { .. } => "hop",
-        Instruction::Show(_) | Instruction::ShowEpoch(..) | Instruction::ShowWalk(_) => "show",
-    }
-}
-
-// Adds the words of an instruction.
-fn push_instruction(out: &mut String, instruction: &Instruction) -> Result<(), AllocError>
-    ensures { OnOk result (string_bytes out.new
-        ≡ string_bytes out.old ++ join_with_byte 32 (line_words (Directs instruction.now))) }
-{
-    out.push_str(first_word(instruction))?;
-    match instruction {
-        Instruction::Origin(_, node, prefix) => {
+    match rest {
+        Rest::Origin(node, prefix) => {
             push_node(out, *node)?;
             push_prefix(out, prefix)
         }
-        Instruction::Single(_, node) => push_node(out, *node),
-        Instruction::Pair(_, a, b) => push_nodes(out, *a, *b),
-        Instruction::Prefer { node, nbr, value } => push_preference(out, *node, *nbr, *value),
-        Instruction::Propose { node, epoch } => {
+        Rest::Single(node) => push_node(out, *node),
+        Rest::Pair(a, b) => push_nodes(out, *a, *b),
+        Rest::Prefer(node, nbr, value) => push_preference(out, *node, *nbr, *value),
+        Rest::Propose(node, epoch) => {
             push_node(out, *node)?;
             push_number(out, epoch.number())
         }
-        Instruction::Drain { times } => push_number(out, *times),
-        Instruction::Control { number } => push_number(out, *number),
-        Instruction::ControlAll { times } => push_named(out, "all", *times),
-        Instruction::Inject {
-            packet,
-            node,
-            prefix,
-        } => {
+        Rest::Drain(number) | Rest::Control(number) | Rest::Hop(number, None) => {
+            push_number(out, *number)
+        }
+        Rest::ControlAll(times) => push_named(out, "all", *times),
+        Rest::Inject(packet, node, prefix) => {
             push_number(out, *packet)?;
             push_node(out, *node)?;
             push_prefix(out, prefix)
         }
-        Instruction::Hop {
-            packet,
-            times: None,
-        } => push_number(out, *packet),
-        Instruction::Hop {
-            packet,
-            times: Some(times),
-        } => {
+        Rest::Hop(packet, Some(times)) => {
             push_number(out, *packet)?;
             push_number(out, *times)
         }
-        Instruction::Show(view) => push_word(out, view.word()),
-        Instruction::ShowEpoch(view, epoch) => push_named(out, view.word(), epoch.number()),
-        Instruction::ShowWalk(packet) => push_named(out, "walk", *packet),
+        Rest::Show(view) => push_word(out, view.word()),
+        Rest::ShowEpoch(view, epoch) => push_named(out, view.word(), epoch.number()),
+        Rest::ShowWalk(packet) => push_named(out, "walk", *packet),
     }
+}
+
+// Adds the words of a directive.
+fn push_directive(out: &mut String, directive: &Directive<Prefix>) -> Result<(), AllocError>
+    ensures { OnOk result (string_bytes out.new
+        ≡ string_bytes out.old ++ join_with_byte 32 (line_words (Directs directive.now))) }
+{
+    let (word, rest) = directive.spelling();
+    out.push_str(word)?;
+    push_rest(out, &rest)
 }
 
 /// Adds the line, with one space between its words, and a newline.
@@ -225,7 +205,7 @@ pub fn push_line(out: &mut String, line: &Line) -> Result<(), AllocError>
         Line::Blank => {}
         Line::Begin => out.push_str("begin")?,
         Line::Declares(declaration) => push_declaration(out, declaration)?,
-        Line::Directs(instruction) => push_instruction(out, instruction)?,
+        Line::Directs(directive) => push_directive(out, directive)?,
     }
     out.push('\n')
 }

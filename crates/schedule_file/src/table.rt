@@ -1,41 +1,13 @@
 //! The table of the grammar: the words that begin a line, how many words such a line has, on which side of `begin` it
-//! stands, and its directive, both ways. `specs/Table.antt` is its definition. docs/CONTRIBUTING.md says what a new line
-//! needs.
-ghost use Rattle.std.specs.Prelude.{◌≡◌, ◌≢◌, true, false, IfSome, IfNone};
+//! stands, and the words after `show` and `transient`. `specs/Table.antt` is its definition.
+ghost use Rattle.std.specs.Prelude.{◌≡◌, ◌≢◌, true, false, Some, IfSome, IfNone};
 ghost use Rattle.std.specs.List.{AllByRecursion};
-ghost use Rattle.schedule_file.specs.declared.lines.Instruction.TheVariants as Instruction;
+ghost use Rattle.schedule_file.specs.Directives.{plain_directive, epoch_directive};
 ghost use Rattle.schedule_file.specs.Spelling.{relation_text};
-ghost use Rattle.schedule_file.specs.Table.{keyword_text, network_keywords, order_keywords, view_text, scheme_text, origin_text, node_text, pair_text, plain_text, epoch_text, shape_of, may_stand, origin_directive, node_directive, pair_directive, plain_directive, epoch_directive, prefix_at, instruction_of};
+ghost use Rattle.schedule_file.specs.Table.{keyword_in, keyword_text, keyword_words, network_keywords, event_keywords, order_keywords, view_text, scheme_text, plain_text, epoch_text, shape_of, may_stand};
 
-use crate::lines::{Directive, Instruction};
-use topology::{Epoch, NodeId, Prefix, PrefixId, Relation, Topology};
-
-/// The first word of a line about a node and a prefix.
-#[derive(Clone, Copy, Debug, PartialEq, Eq)]
-pub enum OriginVerb {
-    Originate,
-    Withdraw,
-    Probe,
-}
-
-/// The event of a line about one node.
-#[derive(Clone, Copy, Debug, PartialEq, Eq)]
-pub enum NodeEvent {
-    Snap,
-    Crash,
-    Restart,
-}
-
-/// The event of a line about the link of two nodes.
-#[derive(Clone, Copy, Debug, PartialEq, Eq)]
-pub enum PairEvent {
-    Deliver,
-    Fail,
-    Restore,
-    Notice,
-    Open,
-    Flush,
-}
+use crate::directives::{Directive, node_event, origin_event, pair_event};
+use topology::{Epoch, NodeId, Prefix, Relation};
 
 /// What `show` writes about the run so far.
 #[derive(Clone, Copy, Debug, PartialEq, Eq)]
@@ -82,9 +54,12 @@ pub enum Keyword {
     Hops,
     Transient,
     Begin,
-    Origin(OriginVerb),
-    Single(NodeEvent),
-    Pair(PairEvent),
+    /// An event of a node and a prefix, or a probe.
+    Origin,
+    /// An event of one node.
+    Single,
+    /// An event of two nodes.
+    Pair,
     Prefer,
     Propose,
     Drain,
@@ -117,13 +92,15 @@ pub struct Shape {
 
 /// The kind of line that the word begins.
 pub fn keyword_named(word: &[u8]) -> Option<Keyword>
-    ensures some { IfSome result (λ keyword. word.now ≡ keyword_text keyword) }
-    ensures none { IfNone result ((keyword : Keyword) → word.now ≢ keyword_text keyword) }
+    ensures { result ≡ keyword_in word.now }
 {
     if let Some(keyword) = declaring_named(word) {
         return Some(keyword);
     }
-    directing_named(word)
+    if let Some(keyword) = event_named(word) {
+        return Some(keyword);
+    }
+    ordering_named(word)
 }
 
 // The kind of line that the word begins, if such lines stand up to `begin`.
@@ -144,22 +121,25 @@ fn declaring_named(word: &[u8]) -> Option<Keyword>
     }
 }
 
-// The kind of line that the word begins, if such lines stand after `begin`.
-fn directing_named(word: &[u8]) -> Option<Keyword>
-    ensures some { IfSome result (λ keyword. word.now ≡ keyword_text keyword) }
-    ensures none { IfNone result ((keyword : Keyword) → (shape_of keyword).directs ≡ true
-        → word.now ≢ keyword_text keyword) }
+// The kind of line that the word begins, if only names follow the word.
+fn event_named(word: &[u8]) -> Option<Keyword>
+    ensures some { IfSome result (λ keyword. keyword_in word.now ≡ Some keyword) }
+    ensures none { IfNone result (AllByRecursion
+        (λ keyword. AllByRecursion (λ text. word.now ≢ text) (keyword_words keyword)) event_keywords) }
 {
-    if let Some(verb) = OriginVerb::named(word) {
-        return Some(Keyword::Origin(verb));
+    // the kind does not depend on the names
+    let node = NodeId::default();
+    let prefix = Prefix { bits: 0, len: 0 };
+    if origin_event(word, node, prefix).is_some() {
+        return Some(Keyword::Origin);
     }
-    if let Some(event) = NodeEvent::named(word) {
-        return Some(Keyword::Single(event));
+    if node_event(word, node).is_some() {
+        return Some(Keyword::Single);
     }
-    if let Some(event) = PairEvent::named(word) {
-        return Some(Keyword::Pair(event));
+    if pair_event(word, node, node).is_some() {
+        return Some(Keyword::Pair);
     }
-    ordering_named(word)
+    None
 }
 
 // The kind of line after `begin` that the word begins, if more than names may follow the word.
@@ -284,130 +264,10 @@ impl Keyword {
             Keyword::Prefix | Keyword::Hops => Shape::declares(2, 2),
             Keyword::Transient => Shape::declares(2, 3),
             Keyword::Begin => Shape::declares(1, 1),
-            Keyword::Origin(_) | Keyword::Pair(_) | Keyword::Propose => Shape::directs(3, 3),
+            Keyword::Origin | Keyword::Pair | Keyword::Propose => Shape::directs(3, 3),
             Keyword::Prefer | Keyword::Inject => Shape::directs(4, 4),
-            Keyword::Single(_) | Keyword::Drain => Shape::directs(2, 2),
+            Keyword::Single | Keyword::Drain => Shape::directs(2, 2),
             Keyword::Control | Keyword::Hop | Keyword::Show => Shape::directs(2, 3),
-        }
-    }
-}
-
-impl OriginVerb {
-    // The verb that the word names.
-    fn named(word: &[u8]) -> Option<OriginVerb>
-        ensures some { IfSome result (λ verb. word.now ≡ origin_text verb) }
-        ensures none { IfNone result ((verb : OriginVerb) → word.now ≢ origin_text verb) }
-    {
-        match word {
-            b"originate" => Some(OriginVerb::Originate),
-            b"withdraw" => Some(OriginVerb::Withdraw),
-            b"probe" => Some(OriginVerb::Probe),
-            _ => None,
-        }
-    }
-
-    /// The word for the verb.
-    pub fn word(self) -> &'static str
-        ensures { result.now ≡ origin_text self }
-    {
-        match self {
-            OriginVerb::Originate => "originate",
-            OriginVerb::Withdraw => "withdraw",
-            OriginVerb::Probe => "probe",
-        }
-    }
-
-    /// The directive at this node and prefix.
-    pub fn directive(self, node: NodeId, prefix: PrefixId) -> Directive
-        ensures { result ≡ origin_directive self node prefix }
-    {
-        match self {
-            OriginVerb::Originate => Directive::Originate { node, prefix },
-            OriginVerb::Withdraw => Directive::Withdraw { node, prefix },
-            OriginVerb::Probe => Directive::Probe { node, prefix },
-        }
-    }
-}
-
-impl NodeEvent {
-    // The event that the word names.
-    fn named(word: &[u8]) -> Option<NodeEvent>
-        ensures some { IfSome result (λ event. word.now ≡ node_text event) }
-        ensures none { IfNone result ((event : NodeEvent) → word.now ≢ node_text event) }
-    {
-        match word {
-            b"snap" => Some(NodeEvent::Snap),
-            b"crash" => Some(NodeEvent::Crash),
-            b"restart" => Some(NodeEvent::Restart),
-            _ => None,
-        }
-    }
-
-    /// The word for the event.
-    pub fn word(self) -> &'static str
-        ensures { result.now ≡ node_text self }
-    {
-        match self {
-            NodeEvent::Snap => "snap",
-            NodeEvent::Crash => "crash",
-            NodeEvent::Restart => "restart",
-        }
-    }
-
-    /// The directive at this node.
-    pub fn directive(self, node: NodeId) -> Directive
-        ensures { result ≡ node_directive self node }
-    {
-        match self {
-            NodeEvent::Snap => Directive::Snap { node },
-            NodeEvent::Crash => Directive::Crash { node },
-            NodeEvent::Restart => Directive::Restart { node },
-        }
-    }
-}
-
-impl PairEvent {
-    // The event that the word names.
-    fn named(word: &[u8]) -> Option<PairEvent>
-        ensures some { IfSome result (λ event. word.now ≡ pair_text event) }
-        ensures none { IfNone result ((event : PairEvent) → word.now ≢ pair_text event) }
-    {
-        match word {
-            b"deliver" => Some(PairEvent::Deliver),
-            b"fail" => Some(PairEvent::Fail),
-            b"restore" => Some(PairEvent::Restore),
-            b"notice" => Some(PairEvent::Notice),
-            b"open" => Some(PairEvent::Open),
-            b"flush" => Some(PairEvent::Flush),
-            _ => None,
-        }
-    }
-
-    /// The word for the event.
-    pub fn word(self) -> &'static str
-        ensures { result.now ≡ pair_text self }
-    {
-        match self {
-            PairEvent::Deliver => "deliver",
-            PairEvent::Fail => "fail",
-            PairEvent::Restore => "restore",
-            PairEvent::Notice => "notice",
-            PairEvent::Open => "open",
-            PairEvent::Flush => "flush",
-        }
-    }
-
-    /// The directive at these two nodes.
-    pub fn directive(self, a: NodeId, b: NodeId) -> Directive
-        ensures { result ≡ pair_directive self a b }
-    {
-        match self {
-            PairEvent::Deliver => Directive::Deliver { from: a, to: b },
-            PairEvent::Fail => Directive::Fail { a, b },
-            PairEvent::Restore => Directive::Restore { a, b },
-            PairEvent::Notice => Directive::Notice { node: a, nbr: b },
-            PairEvent::Open => Directive::OpenSession { node: a, nbr: b },
-            PairEvent::Flush => Directive::Flush { node: a, nbr: b },
         }
     }
 }
@@ -437,7 +297,7 @@ impl PlainView {
         }
     }
 
-    pub fn directive(self) -> Directive
+    pub fn directive(self) -> Directive<Prefix>
         ensures { result ≡ plain_directive self }
     {
         match self {
@@ -474,7 +334,7 @@ impl EpochView {
     }
 
     /// The directive of this epoch.
-    pub fn directive(self, epoch: Epoch) -> Directive
+    pub fn directive(self, epoch: Epoch) -> Directive<Prefix>
         ensures { result ≡ epoch_directive self epoch }
     {
         match self {
@@ -495,64 +355,5 @@ impl SchemeName {
             SchemeName::Detour => "detour",
             SchemeName::Backup => "backup",
         }
-    }
-}
-
-// The prefix at a place. If there is none, the answer does not matter.
-fn prefix_at(topology: &Topology, place: PrefixId) -> Prefix
-    ensures { result ≡ prefix_at topology.now place }
-{
-    match topology.prefix(place) {
-        Some(prefix) => prefix,
-        None => Prefix { bits: 0, len: 0 },
-    }
-}
-
-// The instruction of a verb for the prefix at this place.
-fn origin(topology: &Topology, verb: OriginVerb, node: NodeId, place: PrefixId) -> Instruction
-    ensures { result ≡ Instruction.Origin verb node (prefix_at topology.now place) }
-{
-    Instruction::Origin(verb, node, prefix_at(topology, place))
-}
-
-/// The instruction of a directive, with the prefix itself.
-pub fn instruction_of(net: &Topology, directive: &Directive) -> Instruction
-    ensures { result ≡ instruction_of net.now directive.now }
-{
-    match *directive {
-        Directive::Originate { node, prefix } => origin(net, OriginVerb::Originate, node, prefix),
-        Directive::Withdraw { node, prefix } => origin(net, OriginVerb::Withdraw, node, prefix),
-        Directive::Probe { node, prefix } => origin(net, OriginVerb::Probe, node, prefix),
-        Directive::Prefer { node, nbr, value } => Instruction::Prefer { node, nbr, value },
-        Directive::Deliver { from, to } => Instruction::Pair(PairEvent::Deliver, from, to),
-        Directive::Fail { a, b } => Instruction::Pair(PairEvent::Fail, a, b),
-        Directive::Restore { a, b } => Instruction::Pair(PairEvent::Restore, a, b),
-        Directive::Notice { node, nbr } => Instruction::Pair(PairEvent::Notice, node, nbr),
-        Directive::OpenSession { node, nbr } => Instruction::Pair(PairEvent::Open, node, nbr),
-        Directive::Flush { node, nbr } => Instruction::Pair(PairEvent::Flush, node, nbr),
-        Directive::Snap { node } => Instruction::Single(NodeEvent::Snap, node),
-        Directive::Crash { node } => Instruction::Single(NodeEvent::Crash, node),
-        Directive::Restart { node } => Instruction::Single(NodeEvent::Restart, node),
-        Directive::Propose { node, epoch } => Instruction::Propose { node, epoch },
-        Directive::Drain { times } => Instruction::Drain { times },
-        Directive::Control { number } => Instruction::Control { number },
-        Directive::ControlAll { times } => Instruction::ControlAll { times },
-        Directive::Inject {
-            packet,
-            node,
-            prefix,
-        } => Instruction::Inject {
-            packet,
-            node,
-            prefix: prefix_at(net, prefix),
-        },
-        Directive::Hop { packet, times } => Instruction::Hop { packet, times },
-        Directive::ShowRib => Instruction::Show(PlainView::Rib),
-        Directive::ShowLog => Instruction::Show(PlainView::Log),
-        Directive::ShowControl => Instruction::Show(PlainView::Control),
-        Directive::ShowCut(epoch) => Instruction::ShowEpoch(EpochView::Cut, epoch),
-        Directive::ShowClosure(epoch) => Instruction::ShowEpoch(EpochView::Closure, epoch),
-        Directive::ShowTables(epoch) => Instruction::ShowEpoch(EpochView::Tables, epoch),
-        Directive::ShowWalk(packet) => Instruction::ShowWalk(packet),
     }
 }

@@ -4,7 +4,7 @@ use Rattle.path_vector.specs.GaoRexford.{gao_rexford}
 use Rattle.route_replay.specs.declared.ends.RunEnd.TheVariants.{NoMemory, WriteFault, Limit}
 use Rattle.schedule_file.specs.declared.lines.Numbered.{Numbered}
 use Rattle.schedule_file.specs.declared.lines.Schedule.{Schedule}
-use Rattle.schedule_file.specs.Grammar.{AreInstructed, IsFile, net_of, directives_of}
+use Rattle.schedule_file.specs.Grammar.{AreDirected, IsFile, net_of, directives_of}
 use Rattle.schedule_file.specs.Refusals.{FirstBad}
 use Rattle.route_replay.proofs.Ending.{ends_bad, ends_run, known, one_reading_of}
 use Rattle.route_replay.specs.Running.{AllFitting}
@@ -14,7 +14,7 @@ use Rattle.route_replay.proofs.Probing.{EachDelivers, are_probed}
 use Rattle.route_replay.proofs.runner.replay.Goals as goal
 
 -- the directives of a file fit its network
-fits_as : (schedule : Schedule) (net : Net) (directives : List Numbered) → schedule.topology ≡ net → schedule.lines.items ≡ directives → AreInstructed schedule.topology schedule.lines.items → AllFitting net directives
+fits_as : (schedule : Schedule) (net : Net) (directives : List Numbered) → schedule.topology ≡ net → schedule.lines.items ≡ directives → AreDirected schedule.topology schedule.lines.items → AllFitting net directives
 fits_as schedule net directives same alike follow =
     subst (λ n. AllFitting n directives) same (subst (λ ds. AllFitting schedule.topology ds) alike (all_fit schedule.topology schedule.lines.items follow))
 
