@@ -1,8 +1,7 @@
 -- What a routing state returns, computed from what it stores.
-use Rattle.std.proofs.Common.{◌≡◌, ℕ, ◌-◌, ◌<◌, Bool, true, false, cond, List, [], ◌∷◌, length, take, drop, sub-one, refl, sym, ap, ◌∙◌, subst, arith, Option, Some, None, option_map, fold, ⊎_elim}
+use Rattle.std.proofs.Common.{◌≡◌, ℕ, ◌<◌, Bool, true, false, cond, List, [], ◌∷◌, length, refl, sym, ap, ◌∙◌, subst, Option, Some, None, option_map, fold, ⊎_elim}
 use Rattle.std.specs.Prelude.{if◌then◌else◌}
 use Rattle.std.specs.List.{AllByRecursion}
-use Rattle.std.proofs.lemmas.List.{take_all}
 use Rattle.topology.specs.Lists.{has, Among}
 use Rattle.topology.specs.declared.links.Relation.{Relation}
 use Rattle.topology.specs.Net.{Net, neighbours, relation}
@@ -46,8 +45,10 @@ begins u h p v path e = by_rest (beyond u h p v) e
     by_rest (Some rest) e = (rest, cc e)
 
 -- the path after the first node, with u in front
-pub shown_after : (u : ℕ) (nodes path : List ℕ) → nodes ≡ path → (rest : List ℕ) × (path ≡ u ∷ rest) → u ∷ take (length nodes - 1) (drop 1 nodes) ≡ path
-shown_after u nodes path same (rest, own) = rw (same, own, sub-one) (ap (λ xs. u ∷ xs) (take_all (length rest) rest (omega arith)))
+pub shown_after : (u : ℕ) (rest path : List ℕ) → (node : ℕ) × (path ≡ node ∷ rest) → (later : List ℕ) × (path ≡ u ∷ later) → u ∷ rest ≡ path
+shown_after u rest path (node, is) (later, own) =
+    let first : u ≡ node = cc (sym own ∙ is) in
+    rw first (sym is)
 
 -- the first stored candidate is the first of the choices
 pub each_choice : (net : Net) (u : ℕ) (h : History) (p : ℕ) (n : Neighbour) → Remembers net u h n → p < length net.prefixes → kept_choice p n ≡ choice net u h p n.id
@@ -74,8 +75,8 @@ pub best_is : (rules : Rules) (net : Net) (u : ℕ) (h : History) (p : ℕ) (ns 
 unfolding best
 best_is rules net u h p ns c k below own e = rw (own, sym (first_is rules.before net u h p ns k below), sym e) refl
 
-pub takes_own : (rules : Rules) (net : Net) (u : ℕ) (h : History) (p : ℕ) (alone : List ℕ) → owns h p ≡ true → alone ≡ u ∷ [] → Takes net u None Own alone (best rules net u h p)
-takes_own rules net u h p alone own is = subst (Takes net u None Own alone) (sym (own_best rules net u h p own)) (record { by = refl; learnt = refl; is = ap (λ xs. Some xs) is; own = ([], is) })
+pub takes_own : (rules : Rules) (net : Net) (u : ℕ) (h : History) (p : ℕ) → owns h p ≡ true → Takes net u None Own (u ∷ []) (best rules net u h p)
+takes_own rules net u h p own = subst (Takes net u None Own (u ∷ [])) (sym (own_best rules net u h p own)) (record { by = refl; learnt = refl; is = refl; own = ([], refl) })
 
 pub takes_first : (rules : Rules) (net : Net) (u : ℕ) (h : History) (p : ℕ) (ns : List Neighbour) (n : Neighbour) (path : List ℕ) → Keeps net u h ns → p < length net.prefixes → owns h p ≡ false
     → Among n ns → kept_choice p n ≡ first_kept rules.before p ns → Some path ≡ kept_path p n → Takes net u (Some n.id) (From n.relation) path (best rules net u h p)

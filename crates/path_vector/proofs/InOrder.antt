@@ -1,5 +1,6 @@
 -- Inserting elements one after another gives a list in order.
-use Rattle.std.proofs.Common.{ℕ, ◌<◌, Bool, true, false, cond, not, Some, None, is_some, List, [], ◌∷◌, ◌++◌, ◌≡◌, ◌≢◌, refl, sym, ◌∙◌, ap, subst, arith, length, map, filter, filter_map, fold, option_map}
+use Rattle.std.proofs.Common.{ℕ, ◌<◌, Bool, true, false, cond, not, Some, None, is_some, List, [], ◌∷◌, ◌++◌, ◌≡◌, ◌≢◌, refl, sym, ◌∙◌, ap, subst, arith, length, map, filter, filter_map, fold}
+use Rattle.std.specs.Prelude.{if◌then◌else◌}
 use Rattle.std.specs.List.{AllByRecursion, cons_option}
 use Rattle.std.specs.List.Sorted.{IsPermutation}
 use Rattle.std.proofs.lemmas.List.{append-nil}
@@ -12,12 +13,16 @@ use Rattle.path_vector.specs.History.{History}
 use Rattle.path_vector.specs.Selection.{Choice, choice, choices, ranked}
 use Rattle.path_vector.specs.Standing.{Remembers}
 use Rattle.path_vector.specs.Kept.{Keeps, Rises, ids, kept_choice}
-use Rattle.path_vector.specs.Order.{IsInOrder, IsOrder, has_none, put, put_some, ranks_kept, keeps_none, others_kept}
-use Rattle.path_vector.specs.Ranking.{put_choice, by_rank, order}
+use Rattle.path_vector.specs.Order.{IsInOrder, IsOrder, has_none, keeps_none, others_kept}
+use Rattle.path_vector.specs.Ranking.{put_choice, put_some, kept_by_rank, by_rank, order}
 use Rattle.path_vector.proofs.Neighbourhood.{neighbours_rise}
-use Rattle.path_vector.proofs.Listing.{keeps_rise}
 use Rattle.path_vector.proofs.Answering.{kept_is, each_choice}
 use Rattle.path_vector.proofs.First.{choice_named}
+
+-- r inserted in front of the first rank that it is before
+abbrev put : (Ranked → Ranked → Bool) → Ranked → List Ranked → List Ranked
+put before r [] = r ∷ []
+put before r (s ∷ ss) = if before r s then r ∷ s ∷ ss else s ∷ put before r ss
 
 abbrev into : (Ranked → Ranked → Bool) → List Ranked → List Ranked → List Ranked
 into before sorted rs = fold (λ sorted r. put before r sorted) sorted rs
@@ -128,17 +133,21 @@ module _ (net : Net) (u : ℕ) (h : History) (p : ℕ) where
       ]) refl
 
   -- what is stored is what is read
-  kept_into : (before : Ranked → Ranked → Bool) (sorted : List Ranked) (ns : List Neighbour) → AllByRecursion (Remembers net u h) ns → p < length net.prefixes
-      → fold (λ rs n. put_some before rs (option_map ranked (kept_choice p n))) sorted ns ≡ into before sorted (ranks (ids ns))
-  unfolding ranks
+  kept_into : (before : Ranked → Ranked → Bool) (sorted : List Choice) (ns : List Neighbour) → AllByRecursion (Remembers net u h) ns → p < length net.prefixes
+      → fold (λ sorted n. put_some before sorted (kept_choice p n)) sorted ns ≡ fold (λ sorted c. put_choice before c sorted) sorted (filter_map (choice net u h p) (ids ns))
   kept_into before sorted [] all below = refl
   kept_into before sorted (n ∷ ns) all below =
       rw (each_choice net u h p n all.0 below)
-      (elim (choice net u h p n.id) as (λ o. fold (λ rs n. put_some before rs (option_map ranked (kept_choice p n))) (put_some before sorted (option_map ranked o)) ns
-      ≡ into before sorted (map ranked (cons_option o (filter_map (choice net u h p) (ids ns))))) [
+      (elim (choice net u h p n.id) as (λ o. fold (λ sorted n. put_some before sorted (kept_choice p n)) (put_some before sorted o) ns
+      ≡ fold (λ sorted c. put_choice before c sorted) sorted (cons_option o (filter_map (choice net u h p) (ids ns)))) [
         | None ↦ kept_into before sorted ns all.1 below
-        | Some c ↦ kept_into before (put before (ranked c) sorted) ns all.1 below
+        | Some c ↦ kept_into before (put_choice before c sorted) ns all.1 below
       ])
+
+  pub by_rank_kept : (rules : Rules) (ns : List Neighbour) → Keeps net u h ns → p < length net.prefixes → kept_by_rank rules.before p ns ≡ by_rank rules net u h p
+  unfolding choices by_rank
+  by_rank_kept rules ns k below =
+      kept_into rules.before [] ns k.each below ∙ ap (λ vs. fold (λ sorted c. put_choice rules.before c sorted) [] (filter_map (choice net u h p) vs)) k.same
 
   others_are : (ns : List Neighbour) → AllByRecursion (Remembers net u h) ns → p < length net.prefixes → others_kept p ns ≡ filter (has_none u h p) (ids ns)
   others_are [] all below = refl
@@ -148,19 +157,6 @@ module _ (net : Net) (u : ℕ) (h : History) (p : ℕ) where
         | true ↦ ap (λ vs. n.id ∷ vs) (others_are ns all.1 below)
         | false ↦ others_are ns all.1 below
       ])
-
-  pub order_is : (before : Ranked → Ranked → Bool) → IsRanking before → (ns : List Neighbour) (order : List ℕ) → Keeps net u h ns → p < length net.prefixes
-      → order ≡ map (λ (r : Ranked). r.nbr) (ranks_kept before p ns) ++ others_kept p ns → IsOrder before net u h p order
-  unfolding ranks choices
-  order_is before ranking ns order k below is =
-      let sorted = ranks_kept before p ns in
-      let made : sorted ≡ into before [] (ranks (ids ns)) = kept_into before [] ns k.each below in
-      record {
-        by_rank = sorted;
-        same = subst (λ vs. IsPermutation (ranks vs) sorted) k.same (subst (IsPermutation (ranks (ids ns))) (sym made) (into_same before [] (ranks (ids ns))));
-        sorted = subst (IsInOrder before) (sym made) (into_sorted before ranking [] (ranks (ids ns)) tt (behind_none (ranks (ids ns))) (ranks_rise (ids ns) (keeps_rise net u h ns k)));
-        is = is ∙ ap (λ vs. nbrs sorted ++ vs) (others_are ns k.each below ∙ ap (filter (has_none u h p)) k.same);
-      }
 
   -- the order as a list
   pub ranking_is : (rules : Rules) → IsRanking rules.before → IsValid net → IsOrder rules.before net u h p (order rules net u h p)
@@ -174,3 +170,13 @@ module _ (net : Net) (u : ℕ) (h : History) (p : ℕ) where
         sorted = subst (IsInOrder rules.before) (sym made) (into_sorted rules.before ranking [] (ranks vs) tt (behind_none (ranks vs)) (ranks_rise vs (neighbours_rise net u valid)));
         is = ap (λ l. l ++ filter (has_none u h p) vs) (nbrs_ranked (by_rank rules net u h p));
       }
+
+  pub order_is : (rules : Rules) → IsRanking rules.before → (ns : List Neighbour) (list : List ℕ) → Keeps net u h ns → p < length net.prefixes
+      → list ≡ map (λ (c : Choice). c.nbr) (kept_by_rank rules.before p ns) ++ others_kept p ns → IsOrder rules.before net u h p list
+  unfolding order
+  order_is rules ranking ns list k below is =
+      let whole : list ≡ order rules net u h p =
+      is
+      ∙ (ap (λ cs. map (λ (c : Choice). c.nbr) cs ++ others_kept p ns) (by_rank_kept rules ns k below)
+      ∙ ap (λ vs. map (λ (c : Choice). c.nbr) (by_rank rules net u h p) ++ vs) (others_are ns k.each below ∙ ap (filter (has_none u h p)) k.same)) in
+      subst (IsOrder rules.before net u h p) (sym whole) (ranking_is rules ranking k.valid)

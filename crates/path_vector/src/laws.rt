@@ -1,13 +1,13 @@
 //! Laws of what the definitions read from the entries of a node.
-ghost use Rattle.std.specs.Prelude.{ℕ, Bool, List, ◌<◌, ◌≡◌, ◌≢◌, [], ◌∷◌, ◌++◌, Some, None, true, false, IfSome};
+ghost use Rattle.std.specs.Prelude.{ℕ, Bool, List, ◌<◌, ◌≡◌, ◌≢◌, [], ◌∷◌, ◌++◌, Some, None, true, false, IfSome, slice_get};
 ghost use Rattle.topology.specs.declared.names.Scope.TheVariants.{All};
 ghost use Rattle.topology.specs.Lists.{has, Among};
 ghost use Rattle.topology.specs.Net.{Net, IsValid};
 ghost use Rattle.path_vector.specs.declared.causes.Cause.TheVariants.{Up, Down};
 ghost use Rattle.path_vector.specs.Rules.{Rules, IsRanking};
-ghost use Rattle.path_vector.specs.History.{Change, History, Scoped, change, concerns, concerning, held, highest, opened, ready};
+ghost use Rattle.path_vector.specs.History.{Change, History, Scoped, change, concerns, concerning, held, highest, opened, owns, ready};
 ghost use Rattle.path_vector.specs.Parts.{Accepted, IsPart};
-ghost use Rattle.path_vector.specs.Selection.{Choice, candidate, choices, best, path_of};
+ghost use Rattle.path_vector.specs.Selection.{Choice, Home, candidate, choices, best, best_by, path_of};
 ghost use Rattle.path_vector.specs.declared.policy.Ranked.{Ranked};
 ghost use Rattle.path_vector.specs.Offers.{offer, changed};
 ghost use Rattle.path_vector.specs.Order.{IsOrder};
@@ -96,6 +96,15 @@ pub fn the_order_of_neighbours_is_one_list()
         IsValid net → IsOrder rules.before net u h p (order rules net u h p) }
     ensures one { (before : Ranked → Ranked → Bool) (net : Net) (u : ℕ) (h : History) (p : ℕ)
         (xs ys : List ℕ) → IsRanking before → IsOrder before net u h p xs → IsOrder before net u h p ys → xs ≡ ys }
+{}
+
+/// The best route is the own one where the node owns the prefix, else that by the first candidate by rank.
+#[tactic(auto, using(crate::proofs::Answering::own_best, crate::proofs::First::best_by_rank))]
+pub fn the_best_route_goes_by_the_first_candidate()
+    ensures own { (rules : Rules) (net : Net) (u : ℕ) (h : History) (p : ℕ) → owns h p ≡ true →
+        best rules net u h p ≡ Home }
+    ensures first { (rules : Rules) (net : Net) (u : ℕ) (h : History) (p : ℕ) → owns h p ≡ false →
+        best rules net u h p ≡ best_by false (slice_get (by_rank rules net u h p) 0) }
 {}
 
 /// Each candidate in the list by rank is a candidate.

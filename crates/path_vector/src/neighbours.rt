@@ -9,7 +9,8 @@ ghost use Rattle.topology.specs.declared.names.Scope.TheVariants.{All};
 ghost use Rattle.path_vector.specs.Standing.{Remembers};
 ghost use Rattle.path_vector.specs.Kept.{IsCopy, Hears, Turns, Keeps, Rises, ids, names, led_by, kept_path, kept_choice, first_kept, is_sooner, told_rank, IsAhead, Outranks, IsOutranked, WithdrawsNothing};
 
-use crate::{Cause, LikelyPlaces, Policy, Ranked, leading};
+use crate::candidates::{Candidate, candidate_by};
+use crate::{Cause, LikelyPlaces, Policy, Ranked};
 use std::alloc::Global;
 use topology::{NoMemory, NodeId, Path, PrefixId, Relation, Scope, Session, Topology};
 
@@ -21,10 +22,7 @@ pub struct Neighbour {
     pub held: Option<Session>,
     pub highest: Session,
     pub preference: u32,
-    pub told: Vec<Option<Path>>,
-    /// The own node in front of the path that the neighbour told last, to be used again if it tells the same path. No
-    /// contract mentions it.
-    pub last: Option<Path>,
+    pub told: Vec<Option<Candidate>>,
 }
 
 // A candidate: the place of its neighbour in the list, and its rank.
@@ -44,12 +42,12 @@ struct Rival {
 
 impl Neighbour {
     // The neighbour's candidate for a prefix.
-    pub(crate) fn path(&self, prefix: PrefixId) -> Option<&Path>
-        ensures { option_map (λ path. path.now) result ≡ kept_path prefix self.now }
+    pub(crate) fn candidate(&self, prefix: PrefixId) -> Option<&Candidate>
+        ensures { option_map (λ candidate. candidate.now) result ≡ kept_path prefix self.now }
     {
         match self.told.get(prefix.place() as usize) {
             None => None,
-            Some(path) => path.as_ref(),
+            Some(candidate) => candidate.as_ref(),
         }
     }
 
@@ -57,12 +55,19 @@ impl Neighbour {
     pub(crate) fn rank(&self, prefix: PrefixId) -> Option<Ranked>
         ensures { result ≡ option_map ranked (kept_choice prefix self.now) }
     {
-        let path = self.path(prefix)?;
-        Some(Ranked {
+        let candidate = self.candidate(prefix)?;
+        Some(self.rank_of(candidate))
+    }
+
+    // The rank of this candidate as the neighbour's.
+    pub(crate) fn rank_of(&self, candidate: &Candidate) -> Ranked
+        ensures { result ≡ record { nbr = self.now.id; preference = self.now.preference; length = length candidate.now } }
+    {
+        Ranked {
             nbr: self.id,
             preference: self.preference,
-            length: path.nodes().len() as u32,
-        })
+            length: candidate.len() as u32,
+        }
     }
 
     // The ranks of the neighbour's candidate before and after an update with this path.
@@ -103,7 +108,6 @@ impl Neighbour {
             highest: self.highest,
             preference: self.preference,
             told: copy_row(&self.told)?,
-            last: None,
         })
     }
 
@@ -115,14 +119,14 @@ impl Neighbour {
         ensures id { OnOk result (self.new.id ≡ self.old.id) }
         ensures err { OnErr result (self.new ≡ self.old) }
     {
-        let led = leading::lead(self, cause, node)?;
+        let led = candidate_by(cause, node)?;
         self.heed(scope, cause, led);
         Ok(())
     }
 
-    // Takes an entry that names this neighbour. `led` is the own node in front of the path of an update; it is `None`
-    // for a withdrawal, and where the own node is on the path.
-    fn heed(&mut self, scope: Scope, cause: &Cause, led: Option<Path>)
+    // Takes an entry that names this neighbour. `led` is the candidate that an update brings; it is `None` for a
+    // withdrawal, and where the own node is on the path.
+    fn heed(&mut self, scope: Scope, cause: &Cause, led: Option<Candidate>)
         ensures remembers { (net : Net) (u : ℕ) (past : History) → Remembers net u past self.old →
             Accepts past scope cause.now → names cause.now ≡ Some self.old.id →
             led ≡ led_by u cause.now →
@@ -141,7 +145,7 @@ impl Neighbour {
     }
 
     // Takes an update. Its path counts only if its session is held.
-    fn hear(&mut self, prefix: PrefixId, session: Session, led: Option<Path>)
+    fn hear(&mut self, prefix: PrefixId, session: Session, led: Option<Candidate>)
         ensures { Hears prefix session led self.old self.new }
     {
         self.highest = self.highest.max(session);
@@ -176,7 +180,7 @@ impl Neighbour {
 }
 
 // Empties a row of candidates.
-fn forget(told: &mut Vec<Option<Path>>)
+fn forget(told: &mut Vec<Option<Candidate>>)
     ensures { told.new.items ≡ replicate (length told.old.items) None }
 {
     for place in 0..told.len() {
@@ -185,7 +189,7 @@ fn forget(told: &mut Vec<Option<Path>>)
 }
 
 // The row of candidates of a neighbour that has told nothing.
-fn nothing_told(alloc: Global, prefixes: u16) -> Result<Vec<Option<Path>>, NoMemory>
+fn nothing_told(alloc: Global, prefixes: u16) -> Result<Vec<Option<Candidate>>, NoMemory>
     ensures { IfOk result (λ told. told.items ≡ replicate prefixes None) }
 {
     let mut told = Vec::with_capacity(alloc, prefixes as usize)?;
@@ -195,22 +199,22 @@ fn nothing_told(alloc: Global, prefixes: u16) -> Result<Vec<Option<Path>>, NoMem
     Ok(told)
 }
 
-fn copy_row(told: &Vec<Option<Path>>) -> Result<Vec<Option<Path>>, NoMemory>
+fn copy_row(told: &Vec<Option<Candidate>>) -> Result<Vec<Option<Candidate>>, NoMemory>
     ensures { IfOk result (λ copy. copy.items ≡ told.now.items) }
 {
     let mut copy = Vec::with_capacity(*told.allocator(), told.len())?;
-    for path in told {
-        copy.push(copy_path(path)?)?;
+    for candidate in told {
+        copy.push(copy_candidate(candidate)?)?;
     }
     Ok(copy)
 }
 
-fn copy_path(path: &Option<Path>) -> Result<Option<Path>, NoMemory>
-    ensures { IfOk result (λ copy. copy ≡ path.now) }
+fn copy_candidate(candidate: &Option<Candidate>) -> Result<Option<Candidate>, NoMemory>
+    ensures { IfOk result (λ copy. copy ≡ candidate.now) }
 {
-    match path {
+    match candidate {
         None => Ok(None),
-        Some(path) => Ok(Some(path.copy()?)),
+        Some(candidate) => Ok(Some(candidate.copy()?)),
     }
 }
 
@@ -246,7 +250,6 @@ fn neighbour_of(
         highest: Session::new(1),
         preference: topology.pref(node, id),
         told: nothing_told(alloc, topology.prefix_count())?,
-        last: None,
     })
 }
 
@@ -399,7 +402,7 @@ pub(crate) fn withdraws_nothing(
     let Some(teller) = find(neighbours, likely, from) else {
         return false;
     };
-    teller.path(prefix).is_none()
+    teller.candidate(prefix).is_none()
 }
 
 // Whether the rank is before the other one. It is, where there is no other.

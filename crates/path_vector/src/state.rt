@@ -10,11 +10,13 @@ ghost use Rattle.path_vector.specs.Offers.{offered_route, exported, may_tell};
 ghost use Rattle.path_vector.specs.Standing.{StandsFor};
 ghost use Rattle.path_vector.specs.Kept.{IsOfNeighbour};
 ghost use Rattle.path_vector.specs.Order.{IsOrder};
-ghost use Rattle.path_vector.specs.Taken.{Takes, IsTaken};
+ghost use Rattle.path_vector.specs.Ranking.{by_rank};
+ghost use Rattle.path_vector.specs.Taken.{IsTaken, learned_so};
 ghost use Rattle.path_vector.specs.Answers.{Shows, GoesFirst, Copies, behind};
 
+use crate::candidates::Candidate;
 use crate::neighbours::{self, Neighbour};
-use crate::{Cause, Learned, LikelyPlaces, Policy, order};
+use crate::{Cause, Learned, LikelyPlaces, Policy, RankedCandidate, order, ranked_candidates};
 use std::alloc::Global;
 use topology::{NoMemory, NodeId, Path, PrefixId, Relation, Scope, Session, Topology};
 
@@ -37,12 +39,27 @@ pub struct Chosen {
     pub learned: Option<Learned>,
 }
 
-// A route: the neighbour that it goes by, where it was learnt, and its path, which begins with the own node.
+impl Chosen {
+    /// An equal copy, which shares the nodes of the path.
+    pub fn copy(&self) -> Result<Chosen, NoMemory>
+        ensures { IfOk result (λ copy. copy ≡ self.now) }
+    {
+        let path = match &self.path {
+            None => None,
+            Some(path) => Some(path.copy()?),
+        };
+        Ok(Chosen {
+            path,
+            learned: self.learned,
+        })
+    }
+}
+
+// A route: the own one, or the candidate of a neighbour that has this relation.
 #[derive(Clone, Copy)]
-struct Taken<'a> {
-    via: Option<NodeId>,
-    learned: Learned,
-    path: &'a Path,
+enum Taken<'a> {
+    Own,
+    By(NodeId, Relation, &'a Candidate),
 }
 
 /// What selection needs to know after the entries of a log; it is less than the log. Prefixes are found by place,
@@ -156,14 +173,28 @@ impl<P: Policy + Copy> RouteState<P> {
         self.owned.get(prefix.place() as usize) == Some(&true)
     }
 
-    /// The candidate of a neighbour, with the own node in front.
-    pub fn candidate_path(&self, prefix: PrefixId, nbr: NodeId) -> Option<&Path>
+    // The candidate of a neighbour.
+    fn candidate_of(&self, prefix: PrefixId, nbr: NodeId) -> Option<&Candidate>
         ensures { (policy : P) (net : Net) (u : ℕ) (h : History) →
             StandsFor policy net u self.now h →
             prefix < length net.prefixes → has (neighbours net u) nbr ≡ true →
-            option_map (λ path. path.now) result ≡ candidate u h prefix nbr }
+            option_map (λ one. one.now) result ≡ candidate u h prefix nbr }
     {
-        neighbours::find(&self.neighbours, &self.likely, nbr)?.path(prefix)
+        neighbours::find(&self.neighbours, &self.likely, nbr)?.candidate(prefix)
+    }
+
+    /// Puts the candidates for a prefix into the list, by rank, in the place of what it had. So one list serves for many
+    /// prefixes.
+    pub fn put_by_rank<'a>(
+        &'a self,
+        prefix: PrefixId,
+        sorted: &mut Vec<RankedCandidate<'a>>,
+    ) -> Result<(), NoMemory>
+        ensures { OnOk result ((policy : P) (net : Net) (u : ℕ) (h : History) →
+            StandsFor policy net u self.now h → prefix < length net.prefixes →
+            sorted.new.items ≡ by_rank (P.rules policy) net u h prefix) }
+    {
+        ranked_candidates::put_by_rank(&self.policy, &self.neighbours, prefix, sorted)
     }
 
     /// The candidate of a neighbour, without the own node.
@@ -173,8 +204,7 @@ impl<P: Policy + Copy> RouteState<P> {
             prefix < length net.prefixes → has (neighbours net u) nbr ≡ true →
             behind u (option_map (λ nodes. nodes.now) result) ≡ candidate u h prefix nbr }
     {
-        let path = self.candidate_path(prefix, nbr)?;
-        Some(&path.nodes()[1..])
+        Some(self.candidate_of(prefix, nbr)?.rest())
     }
 
     /// The best route for a prefix: the own one, otherwise the candidate that ranks first.
@@ -190,7 +220,7 @@ impl<P: Policy + Copy> RouteState<P> {
         let Some(taken) = self.taken(prefix) else {
             return Best::None;
         };
-        shown(taken.via, taken.path)
+        taken.shown()
     }
 
     /// The neighbours: first those with a candidate for the prefix, by rank, then the others, ascending.
@@ -202,37 +232,36 @@ impl<P: Policy + Copy> RouteState<P> {
         Ok(order::order(self.alloc, &self.policy, &self.neighbours, prefix)?)
     }
 
-    /// The path of the best route, with the own node in front.
-    pub fn best_path(&self, prefix: PrefixId) -> Option<&Path>
-        ensures { (policy : P) (net : Net) (u : ℕ) (h : History) →
-            StandsFor policy net u self.now h →
-            prefix < length net.prefixes →
-            option_map (λ path. path.now) result
-            ≡ path_of u (best (P.rules policy) net u h prefix) }
+    /// The path of the own node alone.
+    pub fn own_path(&self) -> Result<Path, NoMemory>
+        ensures { IfOk result (λ path. (policy : P) (net : Net) (u : ℕ) (h : History) →
+            StandsFor policy net u self.now h → path ≡ u ∷ []) }
     {
-        let Some(taken) = self.taken(prefix) else {
-            return None;
-        };
-        Some(taken.path)
+        Ok(self.alone.copy()?)
     }
 
-    /// A copy of the best route, to be compared with a later one.
+    /// A copy of the best route, to be compared with a later one. Where the route goes by a candidate, its path is a copy of
+    /// the one that was made last if that has the same nodes; else the path is made, and takes its place.
     #[inline(always)]
-    pub fn chosen(&self, prefix: PrefixId) -> Result<Chosen, NoMemory>
+    pub fn chosen(&self, prefix: PrefixId, made: &mut Option<Path>) -> Result<Chosen, NoMemory>
         ensures { IfOk result (λ chosen. (policy : P) (net : Net) (u : ℕ) (h : History) →
             StandsFor policy net u self.now h → prefix < length net.prefixes →
             Copies net u chosen (best (P.rules policy) net u h prefix)) }
     {
-        let Some(taken) = self.taken(prefix) else {
-            return Ok(Chosen {
+        match self.taken(prefix) {
+            None => Ok(Chosen {
                 path: None,
                 learned: None,
-            });
-        };
-        Ok(Chosen {
-            path: Some(taken.path.copy()?),
-            learned: Some(taken.learned),
-        })
+            }),
+            Some(Taken::Own) => Ok(Chosen {
+                path: Some(self.alone.copy()?),
+                learned: Some(Learned::Own),
+            }),
+            Some(Taken::By(_, relation, candidate)) => Ok(Chosen {
+                path: Some(candidate.path_again(made)?),
+                learned: Some(Learned::From(relation)),
+            }),
+        }
     }
 
     /// Whether an update is sure to leave the best route of its prefix as it is. It is where the node originates the
@@ -277,27 +306,10 @@ impl<P: Policy + Copy> RouteState<P> {
         let Some(taken) = self.taken(prefix) else {
             return Best::None;
         };
-        if !self.tells(taken.learned, topology.relation(self.node(), nbr)) {
+        if !self.tells(taken.learned(), topology.relation(self.node(), nbr)) {
             return Best::None;
         }
-        shown(taken.via, taken.path)
-    }
-
-    /// The path that the node offers a neighbour, with the own node in front.
-    pub fn offer_path(&self, prefix: PrefixId, nbr: NodeId) -> Option<&Path>
-        ensures { (policy : P) (net : Net) (u : ℕ) (h : History) →
-            StandsFor policy net u self.now h →
-            prefix < length net.prefixes → has (neighbours net u) nbr ≡ true →
-            option_map (λ path. path.now) result
-            ≡ path_of u (offered_route (P.rules policy) net u h prefix nbr) }
-    {
-        let Some(taken) = self.taken(prefix) else {
-            return None;
-        };
-        if !self.tells(taken.learned, self.relation_to(nbr)) {
-            return None;
-        }
-        Some(taken.path)
+        taken.shown()
     }
 
     /// The path that the node offered a neighbour while `chosen` was its best route.
@@ -315,8 +327,8 @@ impl<P: Policy + Copy> RouteState<P> {
         chosen.path.as_ref()
     }
 
-    // The own node.
-    fn node(&self) -> NodeId
+    /// The own node.
+    pub fn node(&self) -> NodeId
         ensures { (policy : P) (net : Net) (u : ℕ) (h : History) →
             StandsFor policy net u self.now h → result ≡ u }
     {
@@ -342,19 +354,11 @@ impl<P: Policy + Copy> RouteState<P> {
             IsTaken net u result (best (P.rules policy) net u h prefix) }
     {
         if self.owns(prefix) {
-            return Some(Taken {
-                via: None,
-                learned: Learned::Own,
-                path: &self.alone,
-            });
+            return Some(Taken::Own);
         }
         let neighbour = neighbours::first(&self.policy, &self.neighbours, prefix)?;
-        let path = neighbour.path(prefix)?;
-        Some(Taken {
-            via: Some(neighbour.id),
-            learned: Learned::From(neighbour.relation),
-            path,
-        })
+        let candidate = neighbour.candidate(prefix)?;
+        Some(Taken::By(neighbour.id, neighbour.relation, candidate))
     }
 
     // Whether a route learnt like this is offered to a neighbour with this relation.
@@ -369,14 +373,25 @@ impl<P: Policy + Copy> RouteState<P> {
     }
 }
 
-// A route as callers see it, from its neighbour and its path.
-fn shown<'a>(via: Option<NodeId>, path: &'a Path) -> Best<'a>
-    ensures { (net : Net) (u : ℕ) (learned : Learned) (route : Route) →
-        Takes net u via learned path.now route → Shows u result route }
-{
-    match via {
-        None => Best::Own,
-        Some(nbr) => Best::Via(nbr, &path.nodes()[1..]),
+impl<'a> Taken<'a> {
+    // The route as callers see it.
+    fn shown(&self) -> Best<'a>
+        ensures { (net : Net) (u : ℕ) (route : Route) → IsTaken net u (Some self.now) route → Shows u result route }
+    {
+        match self {
+            Taken::Own => Best::Own,
+            Taken::By(nbr, _, candidate) => Best::Via(*nbr, candidate.rest()),
+        }
+    }
+
+    // Where the route was learnt.
+    fn learned(&self) -> Learned
+        ensures { result ≡ learned_so self.now }
+    {
+        match self {
+            Taken::Own => Learned::Own,
+            Taken::By(_, relation, _) => Learned::From(*relation),
+        }
     }
 }
 
