@@ -17,10 +17,13 @@ use Rattle.path_vector.specs.declared.state.RouteState.{RouteState}
 use Rattle.path_vector.specs.Selection.{best}
 use Rattle.path_vector.specs.Answers.{Copies}
 use Rattle.path_vector.specs.Standing.{StandsFor as RoutesStandFor}
+use Rattle.trigger_log.specs.declared.best_routes.BestRoutes.{BestRoutes}
 use Rattle.trigger_log.specs.declared.offers.Offer.{Offer}
 use Rattle.trigger_log.specs.declared.listeners.Turn.{Turn}
 use Rattle.trigger_log.specs.declared.sessions.SessionMark.{SessionMark}
+use Rattle.trigger_log.specs.declared.listeners.Said.{Said}
 use Rattle.trigger_log.specs.declared.log.NodeLog.{NodeLog}
+use Rattle.trigger_log.specs.BestRoutes.{KeepsRoutes}
 use Rattle.trigger_log.specs.Entries.{Entry, entry, reads, is_local, locals}
 use Rattle.trigger_log.specs.Making.{Making, making}
 use Rattle.trigger_log.specs.Sending.{sent_by, sent_to}
@@ -64,8 +67,8 @@ module _ {P : Type 0} (policy : P) (rules : Rules) (net : Net) (u : ℕ) (h : Li
       → new.next_count ≡ (if is_local cause then suc old.next_count else old.next_count)
       → ((k : Entry) → KeepsEntries policy rules net u old.kept h → Shows rules net u (record { before = h; entry = k }) (record { triggers = triggers; scope = scope; cause = cause; sent = kept }) → KeepsEntries policy rules net u new.kept (k ∷ h)) → kept ≡ said.sent
       → length (neighbours net u) ≤ n → ToldTo (making rules net u h made) n new.sessions.rows silence said → HoldsBack rules net u (made ∷ h) new.held_back
-      → StandsFor policy rules net u new (made ∷ h)
-  entered old new n said kept was fits lists routes node near next entries same whole told held = record {
+      → KeepsRoutes net u (best rules net u (made.read ∷ reads h)) new.best → StandsFor policy rules net u new (made ∷ h)
+  entered old new n said kept was fits lists routes node near next entries same whole told held chosen = record {
     routes = routes;
     fitting = (fits, was.fitting);
     lists = (lists, was.lists);
@@ -75,6 +78,7 @@ module _ {P : Type 0} (policy : P) (rules : Rules) (net : Net) (u : ℕ) (h : Li
     kept = entries made was.kept (record { triggers = refl; read = refl; sent = same ∙ sent_all n said.sent whole told.sent });
     marks = told_all rules net u h made (fits, was.fitting) n new.sessions.rows silence said whole told;
     held = held;
+    chosen = chosen;
   }
     where
       either : (b : Bool) → (if b then suc (suc (locals h)) else suc (locals h)) ≡ suc (if b then suc (locals h) else locals h)
@@ -94,8 +98,9 @@ module _ {P : Type 0} (policy : P) (rules : Rules) (net : Net) (u : ℕ) (h : Li
 
   -- the routes and the turn are those of the entry
   pub enters : (routes : RouteState P) (turn : Turn) → Fits (made ∷ h) → RoutesStandFor policy net u routes (made.read ∷ reads h) → triggers ≡ turn.triggers.now → cause ≡ turn.cause.now
-      → IsPlaced net scope → AreOffers (making rules net u h made) turn.before.now turn.after.now → Enters policy (making rules net u h made) routes turn
-  enters routes turn fits stands by of placed offers = record {
+      → IsPlaced net scope → AreOffers (making rules net u h made) turn.before.now turn.after.now → KeepsRoutes net u (best rules net u (made.read ∷ reads h)) turn.best.now
+      → Enters policy (making rules net u h made) routes turn
+  enters routes turn fits stands by of placed offers chosen = record {
     stands = stands;
     fitting = fits;
     lists = by;
@@ -104,18 +109,32 @@ module _ {P : Type 0} (policy : P) (rules : Rules) (net : Net) (u : ℕ) (h : Li
     covers = offers.covers;
     before = offers.chosen_before;
     after = offers.chosen_after;
+    chosen = chosen;
   }
 
   -- a log of which only the routes took the entry
-  pub midway : (log : NodeLog P) (taken : RouteState P) → StandsFor policy rules net u log h → IsOfNeighbour net u cause → IsPlaced net scope → CauseFits h scope cause → ListsFor scope triggers
-      → RoutesStandFor policy net u taken (made.read ∷ reads h) → IsMidway policy (making rules net u h made) log.routes (record log { routes = taken })
-  midway log taken was near placed fits lists stands = record {
-    was = was;
+  pub midway : (log : NodeLog P) (said : Said) (taken : RouteState P) (kept : BestRoutes) → StandsFor policy rules net u log h → IsOfNeighbour net u cause → IsPlaced net scope → CauseFits h scope cause → ListsFor scope triggers
+      → RoutesStandFor policy net u taken (made.read ∷ reads h) → KeepsRoutes net u (best rules net u (made.read ∷ reads h)) kept
+      → IsMidway policy (making rules net u h made) log.routes log.best (record log { routes = taken; said = said; best = kept })
+  midway log said taken kept was near placed fits lists stands chosen = record {
+    was = record {
+      routes = was.routes;
+      fitting = was.fitting;
+      lists = was.lists;
+      node = was.node;
+      near = was.near;
+      next = was.next;
+      kept = was.kept;
+      marks = was.marks;
+      held = was.held;
+      chosen = was.chosen;
+    };
     near = near;
     placed = placed;
     fits = fits;
     lists = lists;
     routes = stands;
+    chosen = chosen;
   }
 
 -- the causes of one prefix may change its routes

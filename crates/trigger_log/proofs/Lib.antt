@@ -25,6 +25,7 @@ pub mod Finding
 pub mod AllMarks
 pub mod QuietTurns
 pub mod Ended
+pub mod KeptRoutes
 pub mod Entering
 pub mod Due
 pub mod Reading

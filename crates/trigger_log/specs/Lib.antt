@@ -10,6 +10,7 @@ pub mod Entered
 pub mod KeptEntries
 pub mod Standing
 pub mod Offered
+pub mod BestRoutes
 pub mod Telling
 pub mod Marked
 pub mod Midway

@@ -8,10 +8,12 @@ use Rattle.topology.specs.Net.{neighbours}
 use Rattle.path_vector.specs.declared.causes.Cause.{Cause}
 use Rattle.path_vector.specs.declared.causes.Cause.TheVariants.{Recv, Down, Ready}
 use Rattle.path_vector.specs.History.{held}
+use Rattle.path_vector.specs.Selection.{best}
 use Rattle.path_vector.specs.Standing.{StandsFor as RoutesStandFor}
 use Rattle.path_vector.specs.declared.state.RouteState.{RouteState}
 use Rattle.trigger_log.specs.declared.sessions.SessionMark.{SessionMark}
 use Rattle.trigger_log.specs.declared.listeners.Turn.{Turn}
+use Rattle.trigger_log.specs.BestRoutes.{KeepsRoutes}
 use Rattle.trigger_log.specs.Entries.{reads}
 use Rattle.trigger_log.specs.Making.{Making}
 use Rattle.trigger_log.specs.Sending.{sent_count, sent_to}
@@ -60,6 +62,7 @@ pub record Enters {P : Type 0} (policy : P) (m : Making) (routes : RouteState P)
   pub covers : Covers m (prefixes_of turn.after.now)
   pub before : AreChosen m.rules m.net m.node (reads m.before) turn.before.now
   pub after : AreChosen m.rules m.net m.node (m.entry.read ∷ reads m.before) turn.after.now
+  pub chosen : KeepsRoutes m.net m.node (best m.rules m.net m.node (m.entry.read ∷ reads m.before)) turn.best.now
 
 -- what the entry tells w is listed and goes out; count is the number of items then sent in session s
 pub record Spoken (m : Making) (w s : ℕ) (before after : Speech) (count : ℕ) : Type 0 where

@@ -3,8 +3,10 @@
 use Rattle.std.specs.Prelude.{ℕ, suc, ◌≡◌, List}
 use Rattle.topology.specs.Net.{Net, neighbours}
 use Rattle.path_vector.specs.Rules.{Rules}
+use Rattle.path_vector.specs.Selection.{best}
 use Rattle.path_vector.specs.Standing.{StandsFor as RoutesStandFor}
 use Rattle.trigger_log.specs.declared.log.NodeLog.{NodeLog}
+use Rattle.trigger_log.specs.BestRoutes.{KeepsRoutes}
 use Rattle.trigger_log.specs.Entries.{Entry, reads, locals}
 use Rattle.trigger_log.specs.Fits.{AllList, Fits}
 use Rattle.trigger_log.specs.HoldingBack.{HoldsBack}
@@ -27,3 +29,4 @@ pub record StandsFor {P : Type 0} (policy : P) (rules : Rules) (net : Net) (u : 
   pub kept : KeepsEntries policy rules net u log.kept h
   pub marks : AreRows rules net u h log.sessions.rows
   pub held : HoldsBack rules net u h log.held_back
+  pub chosen : KeepsRoutes net u (best rules net u (reads h)) log.best

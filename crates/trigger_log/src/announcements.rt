@@ -105,7 +105,7 @@ fn speak_held<P: Policy + Copy>(
         sent: mark.sent,
         knows: true,
     };
-    Ok(tell_held(routes, held.rows(), &listener, said)?)
+    Ok(tell_held(routes, turn.best, held.rows(), &listener, said)?)
 }
 
 // Lists what the entry tells the neighbour in its newest session. Returns how many items were then sent in it.

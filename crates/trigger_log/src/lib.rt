@@ -2,6 +2,7 @@
 #![tactic(auto)]
 
 mod announcements;
+mod best_routes;
 mod counters;
 pub mod entries;
 pub mod held_back;

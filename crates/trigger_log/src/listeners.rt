@@ -8,6 +8,7 @@ ghost use Rattle.path_vector.specs.History.{History};
 ghost use Rattle.path_vector.specs.Selection.{best};
 ghost use Rattle.path_vector.specs.Answers.{Copies};
 ghost use Rattle.path_vector.specs.Offers.{offer};
+ghost use Rattle.trigger_log.specs.BestRoutes.{KeepsRoutes};
 ghost use Rattle.trigger_log.specs.Going.{going_of};
 ghost use Rattle.trigger_log.specs.Entries.{Entry, reads};
 ghost use Rattle.trigger_log.specs.Making.{making};
@@ -15,6 +16,7 @@ ghost use Rattle.trigger_log.specs.Offered.{AreChosen, AreSame, prefixes_of, upd
 ghost use Rattle.trigger_log.specs.HoldingBack.{ArePlacedRows, row_update, row_updates};
 ghost use Rattle.trigger_log.specs.Telling.{TellsUpdates, silence, speech_of, update_going};
 
+use crate::best_routes::BestRoutes;
 use crate::counters::next_number;
 use crate::offers::Offer;
 use crate::outgoing::{Outgoing, forget};
@@ -62,6 +64,9 @@ fn copy(path: Option<&Path>) -> Result<Option<Path>, NoMemory>
 pub struct Said {
     pub sent: Vec<Sent>,
     pub outgoing: Vec<Outgoing>,
+    /// The path that was made last for a best route, to be used again where the next one is the same. No contract
+    /// mentions it.
+    pub made: Option<Path>,
 }
 
 impl Said {
@@ -72,6 +77,7 @@ impl Said {
         Said {
             sent: Vec::new(alloc),
             outgoing: Vec::new(alloc),
+            made: None,
         }
     }
 
@@ -103,6 +109,8 @@ pub struct Turn<'a> {
     pub before: &'a [Offer],
     pub after: &'a [Offer],
     pub same: &'a [bool],
+    /// The best routes of all prefixes after the entry.
+    pub best: &'a BestRoutes,
 }
 
 /// The path that the neighbour knows; `None` if it knows no offer.
@@ -199,9 +207,26 @@ pub fn tell<P: Policy + Copy>(
     Ok(count)
 }
 
+// The path that the neighbour is offered now.
+fn offered_now<'a, P: Policy + Copy>(
+    routes: &RouteState<P>,
+    kept: &'a BestRoutes,
+    prefix: PrefixId,
+    nbr: NodeId,
+) -> Option<&'a Path>
+    ensures { (policy : P) (net : Net) (u : ℕ) (now : History) →
+        StandsFor policy net u routes.now now → KeepsRoutes net u (best (P.rules policy) net u now) kept.now →
+        has (neighbours net u) nbr ≡ true → prefix < length net.prefixes →
+        option_map (λ path. path.now) result ≡ offer (P.rules policy) net u now prefix nbr }
+{
+    let offer = kept.get(prefix)?;
+    routes.offered_path(&offer.chosen, nbr)
+}
+
 // Lists the update of one row that was held back. Returns its number.
 fn tell_row<P: Policy + Copy>(
     routes: &RouteState<P>,
+    kept: &BestRoutes,
     row: &Pending,
     listener: &Listener,
     count: u32,
@@ -211,12 +236,12 @@ fn tell_row<P: Policy + Copy>(
     ensures sent { IfOk result (λ seq. said.new.sent.items
         ≡ said.old.sent.items ++ record { to = listener.now.nbr; session = listener.now.session; seq = seq; triggers = row.now.triggers } ∷ []) }
     ensures outgoing { IfOk result (λ seq. (policy : P) (net : Net) (u : ℕ) (now : History) →
-        StandsFor policy net u routes.now now → has (neighbours net u) listener.now.nbr ≡ true → row.now.prefix < length net.prefixes →
+        StandsFor policy net u routes.now now → KeepsRoutes net u (best (P.rules policy) net u now) kept.now →
+        has (neighbours net u) listener.now.nbr ≡ true → row.now.prefix < length net.prefixes →
         map going_of said.new.outgoing.items ≡ map going_of said.old.outgoing.items
         ++ update_going listener.now seq (row_update (P.rules policy) net u now row.now listener.now.nbr) ∷ []) }
 {
-    let chosen = routes.chosen(row.prefix)?;
-    let offered = routes.offered_path(&chosen, listener.nbr);
+    let offered = offered_now(routes, kept, row.prefix, listener.nbr);
     Ok(say(listener, count, row.prefix, &row.triggers, offered, said)?)
 }
 
@@ -224,12 +249,14 @@ fn tell_row<P: Policy + Copy>(
 /// items were then sent in its session.
 pub fn tell_held<P: Policy + Copy>(
     routes: &RouteState<P>,
+    kept: &BestRoutes,
     rows: &[Pending],
     listener: &Listener,
     said: &mut Said,
 ) -> Result<u32, NoMemory>
     ensures { IfOk result (λ count. (policy : P) (net : Net) (u : ℕ) (now : History) →
-        StandsFor policy net u routes.now now → has (neighbours net u) listener.now.nbr ≡ true → ArePlacedRows net rows.now →
+        StandsFor policy net u routes.now now → KeepsRoutes net u (best (P.rules policy) net u now) kept.now →
+        has (neighbours net u) listener.now.nbr ≡ true → ArePlacedRows net rows.now →
         TellsUpdates listener.now (row_updates (P.rules policy) net u now rows.now listener.now.nbr)
         (speech_of said.old) (speech_of said.new) count) }
 {
@@ -239,7 +266,7 @@ pub fn tell_held<P: Policy + Copy>(
         if !is_to(row, listener.nbr) {
             continue;
         }
-        count = tell_row(routes, row, listener, count, said)?;
+        count = tell_row(routes, kept, row, listener, count, said)?;
     }
     Ok(count)
 }

@@ -10,13 +10,25 @@ ghost use Rattle.trigger_log.specs.Offered.{AreChosen, ArePlaced, asked, goes_by
 
 use path_vector::{Best, Cause, Chosen, Policy, RouteState};
 use std::alloc::Global;
-use topology::{NoMemory, NodeId, PrefixId, Topology};
+use topology::{NoMemory, NodeId, Path, PrefixId, Topology};
 
 /// The best route of a prefix, not yet filtered by export.
 #[derive(Drop)]
 pub struct Offer {
     pub prefix: PrefixId,
     pub chosen: Chosen,
+}
+
+impl Offer {
+    /// An equal copy, which shares the nodes of the path.
+    pub fn copy(&self) -> Result<Offer, NoMemory>
+        ensures { IfOk result (λ copy. copy ≡ self.now) }
+    {
+        Ok(Offer {
+            prefix: self.prefix,
+            chosen: self.chosen.copy()?,
+        })
+    }
 }
 
 /// The best routes of some prefixes before and after an entry, and for each whether it stayed the same.
@@ -27,10 +39,11 @@ pub struct Offers<'a> {
     pub same: &'a [bool],
 }
 
-/// The best route of one prefix.
+/// The best route of one prefix. `made` is as in `RouteState::chosen`.
 #[inline(always)]
 pub fn offer_of<P: Policy + Copy>(
     routes: &RouteState<P>,
+    made: &mut Option<Path>,
     prefix: PrefixId,
 ) -> Result<Offer, NoMemory>
     ensures prefix { IfOk result (λ offer. offer.prefix ≡ prefix) }
@@ -38,7 +51,7 @@ pub fn offer_of<P: Policy + Copy>(
         StandsFor policy net u routes.now h → prefix < length net.prefixes →
         Copies net u offer.chosen (best (P.rules policy) net u h prefix)) }
 {
-    let chosen = routes.chosen(prefix)?;
+    let chosen = routes.chosen(prefix, made)?;
     Ok(Offer { prefix, chosen })
 }
 
@@ -46,6 +59,7 @@ pub fn offer_of<P: Policy + Copy>(
 pub fn offers_of<P: Policy + Copy>(
     alloc: Global,
     routes: &RouteState<P>,
+    made: &mut Option<Path>,
     topology: &Topology,
 ) -> Result<Vec<Offer>, NoMemory>
     ensures covers { IfOk result (λ offers. prefixes_of offers.items ≡ places topology.now) }
@@ -55,7 +69,7 @@ pub fn offers_of<P: Policy + Copy>(
 {
     let mut offers = Vec::with_capacity(alloc, topology.prefix_count() as usize)?;
     for place in 0..topology.prefix_count() {
-        offers.push(offer_of(routes, PrefixId::new(place))?)?;
+        offers.push(offer_of(routes, made, PrefixId::new(place))?)?;
     }
     Ok(offers)
 }
@@ -78,6 +92,7 @@ fn is_by<P: Policy + Copy>(routes: &RouteState<P>, prefix: PrefixId, nbr: NodeId
 pub fn offers_by<P: Policy + Copy>(
     alloc: Global,
     routes: &RouteState<P>,
+    made: &mut Option<Path>,
     topology: &Topology,
     nbr: NodeId,
 ) -> Result<Vec<Offer>, NoMemory>
@@ -95,7 +110,7 @@ pub fn offers_by<P: Policy + Copy>(
         if !is_by(routes, prefix, nbr) {
             continue;
         }
-        offers.push(offer_of(routes, prefix)?)?;
+        offers.push(offer_of(routes, made, prefix)?)?;
     }
     Ok(offers)
 }
@@ -104,6 +119,7 @@ pub fn offers_by<P: Policy + Copy>(
 pub fn offers_again<P: Policy + Copy>(
     alloc: Global,
     routes: &RouteState<P>,
+    made: &mut Option<Path>,
     offers: &[Offer],
 ) -> Result<Vec<Offer>, NoMemory>
     ensures covers { IfOk result (λ again. prefixes_of again.items ≡ prefixes_of offers.now) }
@@ -113,7 +129,7 @@ pub fn offers_again<P: Policy + Copy>(
 {
     let mut again = Vec::with_capacity(alloc, offers.len())?;
     for i in 0..offers.len() {
-        again.push(offer_of(routes, offers[i].prefix)?)?;
+        again.push(offer_of(routes, made, offers[i].prefix)?)?;
     }
     Ok(again)
 }
@@ -123,6 +139,7 @@ pub fn offers_again<P: Policy + Copy>(
 pub fn offers_for<P: Policy + Copy>(
     alloc: Global,
     routes: &RouteState<P>,
+    made: &mut Option<Path>,
     topology: &Topology,
     cause: &Cause,
 ) -> Result<Vec<Offer>, NoMemory>
@@ -134,6 +151,6 @@ pub fn offers_for<P: Policy + Copy>(
     match cause {
         Cause::Up { .. } => Ok(Vec::new(alloc)),
         Cause::Flush { .. } => Ok(Vec::new(alloc)),
-        _ => Ok(offers_of(alloc, routes, topology)?),
+        _ => Ok(offers_of(alloc, routes, made, topology)?),
     }
 }

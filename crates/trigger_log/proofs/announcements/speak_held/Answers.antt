@@ -30,7 +30,7 @@ returns g c = λ policy net u h k w enters back near holds open_still now says.
     let session : held (reads h) w ≡ Some s = (knew k h w s enters.fitting now).0 in
     let listener : Listener = record { nbr = mark.nbr; session = mark.session; sent = mark.sent; knows = true } in
     let placed : ArePlacedRows net c.rows.result.now = subst (ArePlacedRows net) (sym c.rows.ensures) (held_placed rules net u h c.args.held.now back) in
-    let told = c.in_ok-tell_held.ensures policy net u (k.read ∷ reads h) enters.stands (subst (λ n. has (neighbours net u) n ≡ true) (sym says.nbr) near) placed in
+    let told = c.in_ok-tell_held.ensures policy net u (k.read ∷ reads h) enters.stands enters.chosen (subst (λ n. has (neighbours net u) n ≡ true) (sym says.nbr) near) placed in
     let list : row_updates rules net u (k.read ∷ reads h) c.rows.result.now mark.nbr ≡ news rules net u h k w =
     ap (row_updates rules net u (k.read ∷ reads h) c.rows.result.now) says.nbr
     ∙ (ap (λ l. row_updates rules net u (k.read ∷ reads h) l w) c.rows.ensures

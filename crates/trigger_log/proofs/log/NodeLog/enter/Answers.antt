@@ -1,4 +1,5 @@
 use Rattle.std.proofs.Common.{◌∙◌, sym, ap, map}
+use Rattle.std.proofs.lemmas.Result.{on_ok_weaker}
 use Rattle.trigger_log.specs.Entries.{entry}
 use Rattle.trigger_log.specs.Going.{going_of}
 use Rattle.trigger_log.proofs.Entering.{fits_now}

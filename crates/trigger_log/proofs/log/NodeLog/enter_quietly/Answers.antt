@@ -2,6 +2,9 @@ use Rattle.std.proofs.Common.{◌∙◌, ◌∷◌, sym, ap, subst, arith, lengt
 use Rattle.std.proofs.lemmas.Result.{IfOk-at_ok}
 use Rattle.topology.specs.Net.{neighbours}
 use Rattle.path_vector.specs.Standing.{StandsFor as RoutesStandFor}
+use Rattle.path_vector.specs.Selection.{best}
+use Rattle.trigger_log.specs.BestRoutes.{KeepsRoutes}
+use Rattle.trigger_log.proofs.KeptRoutes.{keeps_same, stays_left}
 use Rattle.trigger_log.specs.Entries.{entry, reads}
 use Rattle.trigger_log.specs.Making.{making}
 use Rattle.trigger_log.specs.Telling.{silence}
@@ -33,4 +36,6 @@ returns-clause-log g c =
     was fits lists (subst (λ r. RoutesStandFor policy net u r (k.read ∷ reads h)) (sym (IfOk-at_ok _ is c.keep.ensures.routes)) stands) (IfOk-at_ok _ is c.keep.ensures.node)
     (ap (λ (s : MarkRows). s.near) (IfOk-at_ok _ is c.keep.ensures.sessions) ∙ c.mark.ensures.near) (IfOk-at_ok _ is c.keep.ensures.next) (IfOk-at_ok _ is c.keep.ensures.kept policy net u h) c.none-sent.ensures (omega arith)
     (subst (λ (s : MarkRows). ToldTo (making rules net u h k) n s.rows silence silence) (sym (IfOk-at_ok _ is c.keep.ensures.sessions)) told)
-    (subst (HoldsBack rules net u (k ∷ h)) (sym (IfOk-at_ok _ is c.keep.ensures.held)) (holds_still rules net u k h fitting c.args.self.now.held_back stays.turns (still_no_news rules net u h k fitting placed stays) was.held)))
+    (subst (HoldsBack rules net u (k ∷ h)) (sym (IfOk-at_ok _ is c.keep.ensures.held)) (holds_still rules net u k h fitting c.args.self.now.held_back stays.turns (still_no_news rules net u h k fitting placed stays) was.held))
+    (subst (KeepsRoutes net u (best rules net u (k.read ∷ reads h))) (sym (IfOk-at_ok _ is c.keep.ensures.best))
+    (keeps_same net u (best rules net u (reads h)) (best rules net u (k.read ∷ reads h)) (stays_left rules net u h k fitting stays) c.args.self.now.best was.chosen)))

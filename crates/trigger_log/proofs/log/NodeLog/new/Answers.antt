@@ -11,13 +11,14 @@ returns-clause-stands g c =
     let net = c.args.topology.now in
     let u = c.args.node in
     record {
-      routes = c.in_ok-new.ensures;
+      routes = c.in_ok-routes.ensures;
       fitting = tt;
       lists = tt;
       node = refl;
-      near = c.in_ok-new-2.ensures.near ∙ c.neighbours.ensures.neighbours;
+      near = c.in_ok-new.ensures.near ∙ c.neighbours.ensures.neighbours;
       next = refl;
-      kept = c.in_ok-new-4.ensures.stands;
-      marks = subst (AreRows rules net u []) (sym (c.in_ok-new-2.ensures.rows ∙ ap (map first) c.neighbours.ensures.neighbours)) (rows_first rules net u);
-      held = record { from = c.in_ok-new-3.ensures.from; rows = c.in_ok-new-3.ensures.rows ∙ sym (none_at_first rules net u) };
+      kept = c.in_ok-new-3.ensures.stands;
+      marks = subst (AreRows rules net u []) (sym (c.in_ok-new.ensures.rows ∙ ap (map first) c.neighbours.ensures.neighbours)) (rows_first rules net u);
+      held = record { from = c.in_ok-new-2.ensures.from; rows = c.in_ok-new-2.ensures.rows ∙ sym (none_at_first rules net u) };
+      chosen = c.in_ok-best.ensures c.args.policy u [] c.in_ok-routes.ensures;
     }
