@@ -18,7 +18,7 @@ use crate::node::Node;
 use crate::outputs::{Output, OutputList};
 use incomplete_closure::Value;
 use path_vector::Policy;
-use stable_table::{Table, droppable_before, table_of};
+use stable_table::{Table, droppable_before, table_after};
 use std::rc::Rc;
 use topology::{Epoch, NoMemory};
 use trigger_log::NodeLog;
@@ -31,6 +31,11 @@ pub struct Due {
 }
 
 impl<P: Policy + Copy> Node<P> {
+    // The newest table. No contract rests on which one it is.
+    fn newest(&self) -> Option<&Table> {
+        Some(self.parts.agreement.tables.newest()?)
+    }
+
     // The newest table, where it was made from a cut of this many entries and from an equal value that has no
     // incomplete trigger.
     fn same_newest(&self, cut: u32, value: &Value) -> Option<&Table>
@@ -50,7 +55,7 @@ impl<P: Policy + Copy> Node<P> {
     }
 
     // The table of an epoch, from a cut of this many entries and from the value. It shares the rows of the newest table
-    // where they are the same. In a network at rest the tables of all epochs share their rows.
+    // where they are sure to be the same, as in a network at rest; else it shares the paths that the newest table has.
     fn table(&self, epoch: Epoch, cut: u32, value: &Value) -> Result<Table, NoMemory>
         ensures epoch { IfOk result (λ table. table.epoch ≡ epoch) }
         ensures table { IfOk result (λ table. (policy : P) (net : Net) (u : ℕ) (now : Chronicle) (newer entries : List Logged) →
@@ -61,7 +66,16 @@ impl<P: Policy + Copy> Node<P> {
     {
         let Some(newest) = self.same_newest(cut, value) else {
             let parts = &self.parts;
-            let table = table_of(parts.alloc, &parts.topology, &self.log, cut, epoch, value)?;
+            let earlier = self.newest();
+            let table = table_after(
+                parts.alloc,
+                &parts.topology,
+                &self.log,
+                cut,
+                epoch,
+                value,
+                earlier,
+            )?;
             return Ok(table);
         };
         let again = newest.again(epoch)?;

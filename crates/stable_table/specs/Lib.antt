@@ -3,6 +3,5 @@ pub mod Trimming
 pub mod Published
 pub mod TwoTables
 pub mod Keeping
-pub mod Backups
 pub mod Rows
 pub mod Flags

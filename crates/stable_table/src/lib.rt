@@ -5,6 +5,7 @@
 mod backups;
 mod dropping;
 mod incomplete;
+mod known_paths;
 mod responders;
 mod routes;
 pub mod rows;
@@ -12,5 +13,5 @@ pub mod tables;
 pub mod two_tables;
 
 pub use dropping::droppable_before;
-pub use tables::{Table, table_of};
+pub use tables::{Table, table_after, table_of};
 pub use two_tables::{Older, TwoTables};

@@ -5,6 +5,7 @@ ghost use Rattle.stable_table.specs.Flags.{is_flagged};
 ghost use Rattle.stable_table.specs.Tables.{all_responded};
 
 use incomplete_closure::Value;
+use path_vector::RankedCandidate;
 use std::alloc::Global;
 use topology::{NoMemory, NodeId};
 
@@ -68,6 +69,14 @@ impl<'a> Responders<'a> {
             Some(flag) => *flag,
             None => false,
         }
+    }
+
+    /// Whether all nodes of the candidate responded.
+    pub(crate) fn all_on(&self, candidate: &RankedCandidate<'_>) -> bool
+        ensures { result ≡ all_responded self.now.value.now candidate.now.path }
+    {
+        let (own, others) = candidate.nodes();
+        self.responded(own) && self.all_responded(others)
     }
 
     /// Whether all of the nodes responded.

@@ -131,29 +131,29 @@ pub(crate) fn first_of(entries: &[Entry], count: u32) -> &[Entry]
     &entries[..entries.len().min(count as usize)]
 }
 
-// The rows of the table that `table_of` describes.
+// The rows of the table that `table_after` describes.
 fn rows_by<P: Policy + Copy>(
     alloc: Global,
     topology: &Topology,
     log: &NodeLog<P>,
     cut: u32,
     value: &Value,
+    earlier: Option<&Table>,
 ) -> Result<Rc<Vec<Row>>, NoMemory>
     ensures { IfOk result (λ rows. (policy : P) (u : ℕ) (newer entries : List Logged) →
         StandsFor policy (P.rules policy) topology.now u log.now (newer ++ entries) → cut ≡ length entries →
         dropped_of log.now ≤ cut →
         ShowsTable (P.rules policy) topology.now u value.now (trimmed (dropped_of log.now) entries) rows.value.items) }
 {
-    let node = log.next_trigger().node;
     let dropped = log.kept_from().saturating_sub(1);
     let entries = first_of(log.entries(), cut.saturating_sub(dropped));
     let incomplete = Incomplete::new(alloc, value.incomplete.as_slice())?;
     let responders = Responders::new(alloc, value)?;
     if cut == log.len() && !has_incomplete(entries, &incomplete) {
-        return rows_of(alloc, topology, log.live(), &responders, node);
+        return rows_of(alloc, topology, log.live(), &responders, log, earlier);
     }
     let state = routes_of(log.base(), entries, &incomplete)?;
-    rows_of(alloc, topology, &state, &responders, node)
+    rows_of(alloc, topology, &state, &responders, log, earlier)
 }
 
 /// The table of an epoch at the node of a log. The first `cut` entries of the log are the cut, and `value` is the value
@@ -176,7 +176,27 @@ pub fn table_of<P: Policy + Copy>(
         dropped_of log.now ≤ cut →
         table ≡ trimmed_table_of (P.rules policy) topology.now u epoch value.now (trimmed (dropped_of log.now) entries)) }
 {
-    let rows = rows_by(alloc, topology, log, cut, value)?;
+    table_after(alloc, topology, log, cut, epoch, value, None)
+}
+
+/// The same table, made after an earlier one of the node, if there is one: any paths that it has and this one needs are
+/// copied from it, which takes no memory.
+pub fn table_after<P: Policy + Copy>(
+    alloc: Global,
+    topology: &Topology,
+    log: &NodeLog<P>,
+    cut: u32,
+    epoch: Epoch,
+    value: &Value,
+    earlier: Option<&Table>,
+) -> Result<Table, NoMemory>
+    ensures epoch { IfOk result (λ table. table.epoch ≡ epoch) }
+    ensures table { IfOk result (λ table. (policy : P) (u : ℕ) (newer entries : List Logged) →
+        StandsFor policy (P.rules policy) topology.now u log.now (newer ++ entries) → cut ≡ length entries →
+        dropped_of log.now ≤ cut →
+        table ≡ trimmed_table_of (P.rules policy) topology.now u epoch value.now (trimmed (dropped_of log.now) entries)) }
+{
+    let rows = rows_by(alloc, topology, log, cut, value, earlier)?;
     Ok(Table {
         epoch,
         value: value.copy()?,

@@ -1,10 +1,10 @@
 //! Calls of `path_vector`: which route a node takes, and what it offers its neighbours.
-use super::making::{network, path_of};
-use path_vector::{Best, Cause, Chosen, GaoRexford, Policy, RouteState};
+use super::making::{ids, network, path_of};
+use path_vector::{Best, Cause, Chosen, GaoRexford, Policy, RankedCandidate, RouteState};
 use std::alloc::Global;
 use std::process::Abort;
 use std::test::Fail;
-use topology::{NodeId, PrefixId, Relation, Scope, Session, Topology};
+use topology::{NodeId, Path, PrefixId, Relation, Scope, Session, Topology};
 
 mod histories;
 mod paths_told_again;
@@ -70,11 +70,57 @@ fn tries_its_peer_first(rt: &impl Abort, state: &RouteState<GaoRexford>) -> Resu
     Ok(())
 }
 
+// The path of a candidate is the same whichever path is known.
+fn makes(
+    rt: &impl Abort,
+    alloc: Global,
+    candidate: &RankedCandidate<'_>,
+    known: &Path,
+    wanted: &[u16],
+) -> Result<(), Fail> {
+    let wanted = ids(alloc, wanted)?;
+    assert!(rt; candidate.path(None)?.nodes() == wanted.as_slice());
+    assert!(rt; candidate.path(Some(known))?.nodes() == wanted.as_slice());
+    Ok(())
+}
+
+// The candidates by rank: first that of the peer, then that of the provider.
+fn ranks_both(
+    rt: &impl Abort,
+    alloc: Global,
+    state: &RouteState<GaoRexford>,
+    known: &Path,
+) -> Result<(), Fail> {
+    let mut sorted = Vec::new(alloc);
+    state.put_by_rank(PrefixId::new(0), &mut sorted)?;
+    assert!(rt; sorted.len() == 2);
+    assert!(rt; sorted[0].nbr() == NodeId::new(3));
+    assert!(rt; sorted[0].nodes().0 == NodeId::new(2));
+    makes(rt, alloc, &sorted[0], known, &[2, 3])?;
+    makes(rt, alloc, &sorted[1], known, &[2, 1, 3])
+}
+
+// The path of the own node, and those of the candidates where that of the peer is known.
+fn makes_paths(
+    rt: &impl Abort,
+    alloc: Global,
+    state: &RouteState<GaoRexford>,
+    chosen: &Chosen,
+) -> Result<(), Fail> {
+    assert!(rt; state.own_path()?.nodes() == [state.node()].as_slice());
+    let Some(known) = &chosen.path else {
+        return Err(Fail::from("the peer tells a way"));
+    };
+    ranks_both(rt, alloc, state, known)
+}
+
 fn run(rt: &impl Abort, alloc: Global, state: &mut RouteState<GaoRexford>) -> Result<(), Fail> {
     hear(state, alloc, 1, &[1, 3])?;
     hear(state, alloc, 3, &[3])?;
-    let chosen = state.chosen(PrefixId::new(0))?;
+    let mut last = None;
+    let chosen = state.chosen(PrefixId::new(0), &mut last)?;
     goes_by_its_peer(rt, state, &chosen);
+    makes_paths(rt, alloc, state, &chosen)?;
     tries_its_peer_first(rt, state)
 }
 

@@ -11,6 +11,8 @@ use std::test::Fail;
 use topology::{Epoch, NodeId, Path, PrefixId, Scope, Session, Topology, Triggers};
 use trigger_log::NodeLog;
 
+mod after_earlier;
+
 // How many entries the cut has, the nodes that responded, and the counter of the incomplete trigger of node 9, or 0;
 // then what the table has: the path of the first prefix, its backups one after another, and the path of the second
 // prefix, which node 2 originates after all updates. In turn: two updates; four updates; without the fourth; node 4 did

@@ -90,20 +90,24 @@ fn enter<P: Policy + Copy>(
 // The best path, and the neighbours that it is offered to.
 fn goes<P: Policy + Copy>(
     rt: &impl Abort,
+    alloc: Global,
     state: &RouteState<P>,
     best: &[NodeId],
     told: &[NodeId],
-) {
+) -> Result<(), Fail> {
     let prefix = PrefixId::new(0);
-    assert!(rt; nodes_of(state.best_path(prefix)) == best);
+    let mut last = None;
+    let chosen = state.chosen(prefix, &mut last)?;
+    assert!(rt; nodes_of(chosen.path.as_ref()) == best);
     for nbr in 1..5 {
         let nbr = NodeId::new(nbr);
         let offered: &[NodeId] = if told.contains(&nbr) { best } else { &[] };
         assert!(rt;
-            nodes_of(state.offer_path(prefix, nbr)) == offered,
+            nodes_of(state.offered_path(&chosen, nbr)) == offered,
             "to {nbr:?}"
         );
     }
+    Ok(())
 }
 
 fn is_in_order<P: Policy + Copy>(
@@ -126,7 +130,7 @@ fn shows<P: Policy + Copy>(
     let (told, order) = split(rest, ' ')?;
     let best = nodes_in(alloc, best)?;
     let told = nodes_in(alloc, told)?;
-    goes(rt, state, &best, &told);
+    goes(rt, alloc, state, &best, &told)?;
     is_in_order(rt, state, &nodes_in(alloc, order)?)
 }
 

@@ -5,7 +5,7 @@ use path_vector::{Cause, RouteState, ShortestAll};
 use std::alloc::Global;
 use std::process::Abort;
 use std::test::Fail;
-use topology::{NodeId, PrefixId, Relation, Scope, Session};
+use topology::{NodeId, Path, PrefixId, Relation, Scope, Session};
 
 const NODE: u16 = 30;
 
@@ -48,11 +48,50 @@ fn has(
     Ok(())
 }
 
+fn nodes_of(path: &Option<Path>) -> &[NodeId] {
+    match path {
+        Some(path) => path.nodes(),
+        None => &[],
+    }
+}
+
+// The best path for a prefix has these nodes after the own one, whatever path was made last.
+fn goes(
+    rt: &impl Abort,
+    alloc: Global,
+    state: &RouteState<ShortestAll>,
+    prefix: u16,
+    last: &mut Option<Path>,
+    wanted: &[u16],
+) -> Result<(), Fail> {
+    let wanted = ids(alloc, wanted)?;
+    let chosen = state.chosen(PrefixId::new(prefix), last)?;
+    match nodes_of(&chosen.path) {
+        [] => assert!(rt; wanted.is_empty()),
+        [_, rest @ ..] => assert!(rt; rest == wanted.as_slice()),
+    }
+    Ok(())
+}
+
+// The best paths for both prefixes. That of the first is mostly another than that of the second, which was made last.
+fn both_go(
+    rt: &impl Abort,
+    alloc: Global,
+    state: &RouteState<ShortestAll>,
+    last: &mut Option<Path>,
+    zero: &[u16],
+    one: &[u16],
+) -> Result<(), Fail> {
+    goes(rt, alloc, state, 0, last, zero)?;
+    goes(rt, alloc, state, 1, last, one)
+}
+
 fn all_hold(
     rt: &impl Abort,
     alloc: Global,
     state: &mut RouteState<ShortestAll>,
 ) -> Result<(), Fail> {
+    let mut last = None;
     // the prefix of an update, its path, and the candidates for both prefixes after it
     let rows: [(u16, &[u16], &[u16], &[u16]); 5] = [
         (0, &FIRST, &FIRST, &[]),
@@ -65,6 +104,7 @@ fn all_hold(
         hear(alloc, state, prefix, path)?;
         has(rt, alloc, state, 0, zero)?;
         has(rt, alloc, state, 1, one)?;
+        both_go(rt, alloc, state, &mut last, zero, one)?;
     }
     Ok(())
 }
