@@ -4,8 +4,18 @@ ghost use Rattle.epoch_report.specs.Telling.{row_told, session_told};
 
 use incomplete_closure::{PendingRows, Row, Rows, SessionRow, SessionRows};
 use std::alloc::Global;
-use topology::{NoMemory, Pending};
+use topology::{NoMemory, Pending, SentItems};
 use trigger_log::{Entry, SessionMark};
+
+// The items that the entry sent, shared with it. Most entries sent none.
+fn items_of(entry: &Entry) -> Result<SentItems, NoMemory>
+    ensures { IfOk result (λ sent. sent ≡ entry.now.sent) }
+{
+    if entry.sent.is_none() {
+        return Ok(SentItems::none());
+    }
+    entry.sent.copy()
+}
 
 fn row_of(entry: &Entry) -> Result<Row, NoMemory>
     ensures { IfOk result (λ row. row ≡ row_told entry.now) }
@@ -13,7 +23,7 @@ fn row_of(entry: &Entry) -> Result<Row, NoMemory>
     Ok(Row {
         triggers: entry.triggers.copy()?,
         scope: entry.scope,
-        sent: entry.sent.copy()?,
+        sent: items_of(entry)?,
     })
 }
 
@@ -23,7 +33,7 @@ pub(crate) fn rows_of(alloc: Global, entries: &[Entry]) -> Result<Rows, NoMemory
 {
     let mut rows = Vec::with_capacity(alloc, entries.len())?;
     for entry in entries {
-        rows.push(row_of(entry)?)?;
+        rows.push_reserved(row_of(entry)?);
     }
     Ok(Rows::new(rows))
 }

@@ -1,5 +1,5 @@
 -- Receipts: what they show of an item.
-use Rattle.std.proofs.Common.{ℕ, zero, suc, ◌≤◌, ◌⊎◌, inl, inr, Bool, nat_lt, Some, List, [], ◌∷◌, ◌++◌, map, slice_get, ◌≡◌, refl, sym, ◌∙◌, ap, ap₂, subst, arith, true, false}
+use Rattle.std.proofs.Common.{ℕ, zero, suc, ◌≤◌, inl, inr, Bool, nat_lt, Some, List, [], ◌∷◌, ◌++◌, map, slice_get, ◌≡◌, refl, sym, ◌∙◌, ap, ap₂, subst, arith, true, false}
 use Rattle.std.specs.Prelude.{if◌then◌else◌}
 use Rattle.std.proofs.lemmas.Bool.Decides.{nat_tests}
 use Rattle.topology.specs.declared.items.Sent.{Sent}
@@ -29,13 +29,13 @@ receipt_at table v [] place one all is = absurd (cc is)
 receipt_at table v (h ∷ list) zero one all is = let here : h ≡ one = cc is in subst (IsReceipt table v) here all.0
 receipt_at table v (h ∷ list) (suc place) one all is = receipt_at table v list place one all.1 is
 
-pub receipt_settles : (list : List Receipt) (place : ℕ) (one : Receipt) (item : Sent) → slice_get list place ≡ Some one → one.with.nbr ≡ item.to → one.with.session ≡ item.session → (one.has_report ≡ false) ⊎ (item.seq ≤ one.received)
+pub receipt_settles : (list : List Receipt) (place : ℕ) (one : Receipt) (item : Sent) → slice_get list place ≡ Some one → one.with.nbr ≡ item.to → one.with.session ≡ item.session → item.seq ≤ one.received
     → (table : SessionTable) (v : ℕ) → AreReceipts table v list → IsSettled table v item
-receipt_settles list place one item is to session why table v all = by why (receipt_at table v list place one all is)
+receipt_settles list place one item is to session has table v all = by (receipt_at table v list place one all is)
   where
-    by : (one.has_report ≡ false) ⊎ (item.seq ≤ one.received) → IsReceipt table v one → IsSettled table v item
-    by (inl none) told = inl (ap (has_node table) (sym to) ∙ (sym told.report ∙ none))
-    by (inr has) told = inr (subst (λ n. item.seq ≤ n) (told.count ∙ ap₂ (λ w s. received_of (row_at table w v s)) to session) has)
+    by : IsReceipt table v one → IsSettled table v item
+    by (inl none) = inl (ap (has_node table) (sym to) ∙ none)
+    by (inr count) = inr (subst (λ n. item.seq ≤ n) (count ∙ ap₂ (λ w s. received_of (row_at table w v s)) to session) has)
 
 -- one receipt more
 pub one_receipt_more : (table : SessionTable) (v : ℕ) (list : List Receipt) (one : Receipt) → AreReceipts table v list → IsReceipt table v one → AreReceipts table v (list ++ one ∷ [])

@@ -7,10 +7,9 @@ use Rattle.incomplete_closure.specs.declared.session_table.SessionTable.{Session
 use Rattle.incomplete_closure.specs.Opening.{received_of}
 use Rattle.incomplete_closure.specs.Tables.{has_node, row_at}
 
--- the receipt is what the table has of its session with v
-pub record IsReceipt (table : SessionTable) (v : ℕ) (receipt : Receipt) : Type 0 where
-  pub report : receipt.has_report ≡ has_node table receipt.with.nbr
-  pub count : receipt.received ≡ received_of (row_at table receipt.with.nbr v receipt.with.session)
+-- its node has no report, or the receipt is what the table has of its session with v
+abbrev pub IsReceipt : SessionTable → ℕ → Receipt → Type 0
+IsReceipt table v receipt = (has_node table receipt.with.nbr ≡ false) ⊎ (receipt.received ≡ received_of (row_at table receipt.with.nbr v receipt.with.session))
 
 -- each of them is
 abbrev pub AreReceipts : SessionTable → ℕ → List Receipt → Type 0

@@ -8,7 +8,7 @@ ghost use Rattle.incomplete_closure.specs.Receipts.{AreReceipts};
 ghost use Rattle.incomplete_closure.specs.Tables.{IsTableOf};
 ghost use Rattle.incomplete_closure.specs.Sizes.{carried_by, items_in, carried_in, held_in, entries_of, sessions_of, carried_of};
 
-use crate::receipts::{Receipt, is_settled, receipts_of};
+use crate::receipts::Receipts;
 use crate::reports::received_of;
 use crate::session_table::SessionTable;
 use crate::steps::Steps;
@@ -74,34 +74,57 @@ fn push_open<L: Ledger>(
     Ok(())
 }
 
-// As `push_open`, for an item of node `from`, if its receiver has a report.
-fn gather_item<L: Ledger>(
+// As `push_open`, for an item of node `from`, if its receiver has a report. Few items come here.
+#[inline(never)]
+fn gather_listed<L: Ledger>(
     opened: &mut Vec<OpenTrigger>,
     table: &SessionTable,
-    receipts: &[Receipt],
     from: NodeId,
-    item: &SentRef<'_>,
+    item: SentRef<'_>,
     steps: &mut Steps<L>,
 ) -> Result<(), NoMemory>
-    ensures opened { OnOk result ((reports : List AnyReport) → IsTableOf reports table.now → AreReceipts table.now from receipts.now →
-        opened.new.items ≡ opened.old.items ++ open_at (of_node reports item.now.to) from item.now) }
-    ensures most { steps.new ≤ steps.old + length item.now.triggers }
+    ensures opened { OnOk result ((reports : List AnyReport) → IsTableOf reports table.now →
+        opened.new.items ≡ opened.old.items ++ open_at (of_node reports item.entry.to) from item.entry) }
+    ensures most { steps.new ≤ steps.old + length item.entry.triggers }
     ensures least { steps.old ≤ steps.new }
 {
-    if is_settled(receipts, item) {
-        return Ok(());
-    }
     if !table.has_node(item.to) {
         return Ok(());
     }
-    push_open(opened, &table.row(item.to, from, item.session), item, steps)
+    push_open(
+        opened,
+        &table.row(item.to, from, item.session),
+        &item,
+        steps,
+    )
+}
+
+// The open triggers of an item of node `from`. The table is asked only where no receipt settles the item.
+#[inline(always)]
+fn gather_item<L: Ledger>(
+    opened: &mut Vec<OpenTrigger>,
+    table: &SessionTable,
+    receipts: &Receipts,
+    from: NodeId,
+    item: SentRef<'_>,
+    steps: &mut Steps<L>,
+) -> Result<(), NoMemory>
+    ensures opened { OnOk result ((reports : List AnyReport) → IsTableOf reports table.now → AreReceipts table.now from receipts.now →
+        opened.new.items ≡ opened.old.items ++ open_at (of_node reports item.entry.to) from item.entry) }
+    ensures most { steps.new ≤ steps.old + length item.entry.triggers }
+    ensures least { steps.old ≤ steps.new }
+{
+    if receipts.is_settled(&item) {
+        return Ok(());
+    }
+    gather_listed(opened, table, from, item, steps)
 }
 
 // The open triggers of a row.
 fn gather_row<L: Ledger>(
     opened: &mut Vec<OpenTrigger>,
     table: &SessionTable,
-    receipts: &[Receipt],
+    receipts: &Receipts,
     from: NodeId,
     row: &Row,
     steps: &mut Steps<L>,
@@ -111,19 +134,23 @@ fn gather_row<L: Ledger>(
     ensures most { steps.new ≤ steps.old + (length row.now.sent + carried_by row.now.sent) }
     ensures least { OnOk result (steps.old + length row.now.sent ≤ steps.new) }
 {
+    if row.sent.is_none() {
+        return Ok(());
+    }
     for place in 0..row.sent.len() {
         steps.take();
         let item = row.sent.at(place).unwrap();
-        gather_item(opened, table, receipts, from, &item, steps)?;
+        gather_item(opened, table, receipts, from, item, steps)?;
     }
     Ok(())
 }
 
-// The open triggers of rows.
+// The open triggers of rows. This loop takes most of the time of a closure, so it is compiled by itself.
+#[inline(never)]
 fn gather_rows<L: Ledger>(
     opened: &mut Vec<OpenTrigger>,
     table: &SessionTable,
-    receipts: &[Receipt],
+    receipts: &Receipts,
     from: NodeId,
     rows: &[Row],
     steps: &mut Steps<L>,
@@ -200,7 +227,7 @@ fn gather_report<L: Ledger>(
     ensures least { OnOk result (steps.old
         + (length report.now.rows + items_in report.now.rows + length report.now.pending) ≤ steps.new) }
 {
-    let receipts = receipts_of(alloc, table, report, steps)?;
+    let receipts = Receipts::of(alloc, table, report, steps)?;
     gather_rows(
         opened,
         table,

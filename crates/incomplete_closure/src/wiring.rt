@@ -69,7 +69,8 @@ fn wire_row<L: Ledger>(
     behind.put(number, &row.scope)
 }
 
-// Adds the edges of all rows of a report, the last row first.
+// Adds the edges of all rows of a report, the last row first. Like `gather_rows`, it is compiled by itself.
+#[inline(never)]
 fn wire_rows<L: Ledger>(
     alloc: Global,
     graph: &mut Graph,

@@ -7,4 +7,4 @@ pub returns-then-is_settled-clause-opened : goal.returns-then-is_settled-clause-
 returns-then-is_settled-clause-opened g c reports is told =
     let before = c.args.opened.now.items in
     let settled = c.is_settled.ensures c.if-is_settled.true c.args.table.now c.args.from told in
-    sym (ap (λ more. before ++ more) (none_settled reports c.args.table.now c.args.from c.args.item.now is settled) ∙ append-nil before)
+    sym (ap (λ more. before ++ more) (none_settled reports c.args.table.now c.args.from c.args.item is settled) ∙ append-nil before)

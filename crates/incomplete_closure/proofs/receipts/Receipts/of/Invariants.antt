@@ -1,7 +1,7 @@
 use Rattle.std.proofs.Common.{◌≡◌, ◌+◌}
 use Rattle.incomplete_closure.specs.Receipts.{AreReceipts}
-use Rattle.incomplete_closure.proofs.receipts.receipts_of.Given as goal
+use Rattle.incomplete_closure.proofs.receipts.Receipts.of.Given as goal
 
 -- those so far are receipts
 abbrev pub invariant-loop-row : goal.invariant-loop-row
-invariant-loop-row g l = AreReceipts l.table l.report.node l.receipts.items × (l.steps ≡ l.fn.steps + l.row-index)
+invariant-loop-row g l = AreReceipts l.table l.report.node l.list.items × (l.steps ≡ l.fn.steps + l.row-index)
