@@ -6,7 +6,7 @@ use Rattle.chronicle.specs.Facts.{Chronicle}
 use Rattle.chronicle.specs.Run.{actor, does, is_stopped, step}
 use Rattle.world_core.specs.declared.network.Network.{Network}
 use Rattle.world_core.specs.declared.outcomes.Outcome.{Outcome}
-use Rattle.world_core.specs.declared.outcomes.Stop.{Stop}
+use Rattle.node_core.specs.declared.outputs.Stop.{Stop}
 use Rattle.world_core.specs.Happening.{IsAfterStep, IsAsWas, IsRegular, KeepsAllButMails, Stops}
 use Rattle.world_core.specs.Matching.{AreMails, Counts, Stands}
 use Rattle.world_core.proofs.AfterSteps.{comes_so}
@@ -18,11 +18,11 @@ module _ {P : Type 0} (rules : P → Rules) (past : Chronicle) (old new : Networ
   counted_stands counts others kept was mails = record {
     are_nodes = rw (same.policy, same.topology, kept.nodes) was.are_nodes;
     are_crashed = rw (same.topology, kept.crashed) was.are_crashed;
-    are_links = rw (same.topology, kept.links) was.are_links;
+    are_links = rw (same.topology, kept.world.links) was.are_links;
     are_mails = rw same.topology mails;
-    are_published = rw kept.publications was.are_published;
-    are_walks = rw (same.topology, kept.walks) was.are_walks;
-    counted = rw (same.topology, kept.triggers) was.counted;
+    are_published = rw kept.world.publications was.are_published;
+    are_walks = rw (same.topology, kept.world.walks) was.are_walks;
+    counted = rw (same.topology, kept.world.triggers) was.counted;
   }
 
   -- so it is by the policy of the new network

@@ -113,13 +113,13 @@ crash_stands rules past counts u old set forgot mails same kept as_set rest node
           (subst (λ p. AreNodes p (rules old.policy) set.topology.value now forgot.nodes.items) (sym as_set.policy)
           (subst (λ p. AreNodes set.policy (rules p) set.topology.value now forgot.nodes.items) same.policy in_forgot));
       are_crashed = rw (as_set.topology, same.topology, rest.crashed) flags;
-      are_links = rw (as_set.topology, same.topology, rest.links, kept.links) (crash_links net past u old.links was.are_links);
+      are_links = rw (as_set.topology, same.topology, rest.world.links, kept.world.links) (crash_links net past u old.links was.are_links);
       are_mails =
           let here : AreMails net past counts forgot.mails = rw (rest.mails, kept.mails) was.are_mails in
           rw (as_set.topology, same.topology) (stopped_mails net past counts forgot.mails mails here u (told net here.acts here.stands node));
-      are_published = rw (rest.publications, kept.publications) was.are_published;
-      are_walks = rw (as_set.topology, same.topology, rest.walks, kept.walks) (walks_stay net past now old.walks (same_more (fact.Crash u) past past (λ t. t) (same_now past)) was.are_walks);
-      counted = rw (as_set.topology, same.topology, rest.triggers, kept.triggers) (crash_counted (rules old.policy) net past u old.triggers was.counted);
+      are_published = rw (rest.world.publications, kept.world.publications) was.are_published;
+      are_walks = rw (as_set.topology, same.topology, rest.world.walks, kept.world.walks) (walks_stay net past now old.walks (same_more (fact.Crash u) past past (λ t. t) (same_now past)) was.are_walks);
+      counted = rw (as_set.topology, same.topology, rest.world.triggers, kept.world.triggers) (crash_counted (rules old.policy) net past u old.triggers was.counted);
     }
 
 -- so it is after a node came back
@@ -135,11 +135,11 @@ restart_stands rules past counts u old set mails stays same kept node was flags 
       are_nodes = rw (same.policy, same.topology, kept.nodes)
           (same_nodes old.policy (rules old.policy) net past old.nodes.items was.are_nodes now (λ v one stands. stays old.policy net v one past (fact.Restart u) tt stands));
       are_crashed = rw same.topology flags;
-      are_links = rw (same.topology, kept.links) (restart_links net past u old.links was.are_links);
+      are_links = rw (same.topology, kept.world.links) (restart_links net past u old.links was.are_links);
       are_mails =
           let here : AreMails net past counts set.mails = rw kept.mails was.are_mails in
           rw same.topology (started_mails net past counts set.mails mails here u (told net here.acts here.stands node));
-      are_published = rw kept.publications was.are_published;
-      are_walks = rw (same.topology, kept.walks) (walks_stay net past now old.walks (same_more (fact.Restart u) past past (λ t. t) (same_now past)) was.are_walks);
-      counted = rw (same.topology, kept.triggers) (restart_counted (rules old.policy) net past u old.triggers was.counted);
+      are_published = rw kept.world.publications was.are_published;
+      are_walks = rw (same.topology, kept.world.walks) (walks_stay net past now old.walks (same_more (fact.Restart u) past past (λ t. t) (same_now past)) was.are_walks);
+      counted = rw (same.topology, kept.world.triggers) (restart_counted (rules old.policy) net past u old.triggers was.counted);
     }

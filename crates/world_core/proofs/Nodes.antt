@@ -105,3 +105,7 @@ inside_places net count i u places at = rw places.count_is (slice_get_within (as
 pub not_missing : {A : Type 0} (r : Option A) (i n : ℕ) → is_some r ≡ nat_lt i n → i < n → r ≡ None → ⊥
 not_missing None i n within inside none = absurd (grind (arith, nat_tests, within, inside))
 not_missing (Some x) i n within inside none = absurd (cc none)
+
+-- a node at a place of the ascending nodes of a network is one of them
+pub node_here : (net : Net) (near : List ℕ) (i x : ℕ) → near ≡ ascending net.nodes → i < length near → x ≡ get_or near i x → has net.nodes x ≡ true
+node_here net near i x are low is = sym (has-ascending net.nodes x) ∙ (ap (λ l. has l x) (sym are) ∙ has_placed near i x (slice_get_read near (length near) i x refl low is))

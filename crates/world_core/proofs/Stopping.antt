@@ -20,19 +20,17 @@ use Rattle.chronicle.specs.Walks.{packets}
 use Rattle.cut_laws.specs.Own.{SameNode}
 use Rattle.topology.specs.declared.limits.TheConstants.{MOST_CONTROL, MOST_ENTRIES, MOST_EPOCHS, MOST_EVENTS, MOST_MARKS, MOST_PACKETS, MOST_TRIGGERS, MOST_UPDATES}
 use Rattle.node_core.specs.NodeLimits.{Reached, has_large_value, has_long_list, node_above, limit_before_marks, first_of_node}
-use Rattle.node_core.specs.NodeLimits.{StopsAt as NodeStopsAt}
+use Rattle.node_core.specs.NodeLimits.{StopsAt}
 use Rattle.node_core.specs.Outputs.{Answers}
 use Rattle.node_core.specs.declared.node.Node.{Node}
 use Rattle.node_core.specs.declared.outputs.OutputList.{OutputList}
 use Rattle.node_core.specs.declared.outputs.Outputs.TheVariants.{Did}
-use Rattle.node_core.specs.declared.outputs.Stop.{Stop as NodeStop}
-use Rattle.node_core.specs.declared.outputs.Stop.TheVariants as node_stop
-use Rattle.world_core.specs.declared.outcomes.Stop.{Stop}
-use Rattle.world_core.specs.declared.outcomes.Stop.TheVariants as stop
+use Rattle.node_core.specs.declared.outputs.Stop.{Stop}
+use Rattle.node_core.specs.declared.outputs.Stop.TheVariants as stop
 use Rattle.world_core.specs.declared.network.Network.{Network}
 use Rattle.world_core.specs.Happening.{ListsAreShort}
 use Rattle.world_core.specs.Matching.{AreNodes, Counts, Stands}
-use Rattle.world_core.specs.Limits.{limit_of, triggers_of, has_more_control, has_more_packets, has_more_marks, first_above, above, above_by, StopsAt, is_epochs, run_stop}
+use Rattle.world_core.specs.Limits.{limit_of, triggers_of, has_more_control, has_more_packets, has_more_marks, first_above, above, above_by, is_epochs, run_stop}
 use Rattle.world_core.proofs.Places.{same_some}
 use Rattle.world_core.proofs.Counts.{Logs, LogsBy, by_own, not_fewer, one_entry, total_now, within_counts, none_of_node, above_none, above_control, above_packets, above_marks, above_own}
 use Rattle.world_core.proofs.Nodes.{all_within}
@@ -145,13 +143,13 @@ module _ (rules : Rules) (net : Net) (past now : Chronicle) (u : ℕ) (own : Boo
       absurd (cc none)
 
   pub at_limit : ListsAreShort rules net now → (kind : LimitKind) (number : ℕ) → Logs u own past now → node_above rules net u now ≡ Some (record { kind = kind; number = number })
-      → StopsAt (above rules net now) (run_stop triggers own (node_stop.Limit kind number))
+      → StopsAt (above rules net now) (run_stop triggers own (stop.Limit kind number))
   unfolding node_above
   at_limit lists kind number logs is =
       let epochs = nat_lt MOST_EPOCHS (epoch u now) in
       let entries = nat_lt MOST_ENTRIES (length (log_of u now)) in
       let updates = nat_lt MOST_UPDATES (length (sent_of rules net u (log_of u now))) in
-      subst (λ limit. StopsAt limit (run_stop triggers own (node_stop.Limit kind number))) (sym (above_own rules net past within now u node others))
+      subst (λ limit. StopsAt limit (run_stop triggers own (stop.Limit kind number))) (sym (above_own rules net past within now u node others))
       (limit_is epochs (has_large_value u now || has_long_list rules net u now) (nat_lt MOST_TRIGGERS (triggers_of net now)) entries updates (has_more_control now) (has_more_packets now) (has_more_marks rules net now) (own && nat_le MOST_TRIGGERS triggers) kind number is
       (λ large. let many = too_many_triggers rules net u now node lists large in grind (arith, nat_tests, many))
       (λ low small. enough own triggers (triggers_of net past) (triggers_of net now) (locals (log_of u past)) (locals (log_of u now)) total
@@ -167,13 +165,13 @@ module _ (rules : Rules) (net : Net) (past now : Chronicle) (u : ℕ) (own : Boo
       above_own rules net past within now u node others ∙ rw (none.0, high) refl
 
 -- where a node stops, the run does
-pub stops_with : (rules : Rules) (net : Net) (past : Chronicle) (u : ℕ) (own : Bool) (triggers : ℕ) (s : Step) (why : NodeStop) → IsValid net → has net.nodes u ≡ true
+pub stops_with : (rules : Rules) (net : Net) (past : Chronicle) (u : ℕ) (own : Bool) (triggers : ℕ) (s : Step) (why : Stop) → IsValid net → has net.nodes u ≡ true
     → ((v : ℕ) → has net.nodes v ≡ true → node_above rules net v past ≡ None) → ((v : ℕ) → (u == v) ≡ false → SameNode v past (chronicle_of past s))
     → triggers ≡ triggers_of net past → triggers ≤ MOST_TRIGGERS → LogsBy u own past s → ListsAreShort rules net (chronicle_of past s)
-    → NodeStopsAt (limit_before_marks rules net u s) why → StopsAt (above_by rules net s) (run_stop triggers own why)
-stops_with rules net past u own triggers s node_stop.NoMemory valid node within others total few logs lists stops = tt
-stops_with rules net past u own triggers (Idle reason) (node_stop.Limit kind number) valid node within others total few logs lists stops = absurd (cc stops)
-stops_with rules net past u own triggers (Goes now) (node_stop.Limit kind number) valid node within others total few logs lists stops =
+    → StopsAt (limit_before_marks rules net u s) why → StopsAt (above_by rules net s) (run_stop triggers own why)
+stops_with rules net past u own triggers s stop.NoMemory valid node within others total few logs lists stops = tt
+stops_with rules net past u own triggers (Idle reason) (stop.Limit kind number) valid node within others total few logs lists stops = absurd (cc stops)
+stops_with rules net past u own triggers (Goes now) (stop.Limit kind number) valid node within others total few logs lists stops =
     at_limit rules net past now u own triggers valid node within others total few lists kind number logs stops
 
 -- where the triggers of all are too many, the run stops at them

@@ -1,5 +1,5 @@
 -- The network after an event, and the outcome of the event.
-use Rattle.std.specs.Prelude.{ℕ, ◌≡◌, ◌<◌, ◌≤◌, ◌-◌, ◌^◌, ◌==◌, Bool, true, false, is_some, Some, List, ◌∷◌, ◌++◌, length, if◌then◌else◌}
+use Rattle.std.specs.Prelude.{ℕ, ◌≡◌, ◌<◌, ◌≤◌, ◌-◌, ◌^◌, ◌==◌, Bool, true, false, is_some, Some, Result, IfErr, IfOk, OnOk, List, ◌∷◌, ◌++◌, length, if◌then◌else◌}
 use Rattle.topology.specs.declared.ballots.Ballot.{Ballot}
 use Rattle.topology.specs.declared.items.Pending.{Pending}
 use Rattle.topology.specs.declared.items.Sent.{Sent}
@@ -23,6 +23,7 @@ use Rattle.chronicle.specs.Crashes.{crashed}
 use Rattle.chronicle.specs.Inputs.{Input}
 use Rattle.chronicle.specs.Inputs as input
 use Rattle.chronicle.specs.Run.{given, chronicle_of, does, held_with}
+use Rattle.chronicle.specs.Run.{step as step_of}
 use Rattle.chronicle.specs.Steps.{Step}
 use Rattle.chronicle.specs.Walks.{standing}
 use Rattle.cut_laws.specs.Delivered.{Did}
@@ -33,10 +34,12 @@ use Rattle.world_core.specs.declared.network.account.Wanted.TheVariants.{Effects
 use Rattle.world_core.specs.declared.outcomes.Effect.{Effect}
 use Rattle.world_core.specs.declared.network.Network.{Network}
 use Rattle.world_core.specs.declared.outcomes.Outcome.{Outcome}
-use Rattle.world_core.specs.declared.outcomes.Stop.{Stop}
+use Rattle.node_core.specs.declared.outputs.Stop.{Stop}
 use Rattle.world_core.specs.Accounts.{AccountView}
+use Rattle.world_core.specs.Counting.{AreFew, counts_after}
 use Rattle.world_core.specs.Effects.{effects, Tells}
-use Rattle.world_core.specs.Limits.{triggers_of, above_by, StopsAt}
+use Rattle.node_core.specs.NodeLimits.{StopsAt}
+use Rattle.world_core.specs.Limits.{triggers_of, above_by}
 use Rattle.world_core.specs.Matching.{AreCrashed, AreLinks, AreMails, AreNodes, Counts, IsCounted, Stands}
 use Rattle.world_core.specs.Publications.{all_published}
 use Rattle.world_core.specs.Walks.{AreWalksBut}
@@ -136,6 +139,11 @@ pub record MayHand {P : Type 0} (rules : Rules) (past : Chronicle) (counts : Cou
   pub passing : PacketIsIn network.topology.value past input
   pub goes : GoesWhere input (given rules network.topology.value past u input)
 
+-- the policy and the topology are as they were
+pub record IsAsWas {P : Type 0} (old new : Network P) : Type 0 where
+  pub policy : new.policy ≡ old.policy
+  pub topology : new.topology ≡ old.topology
+
 -- the network is as the run has it after the step, and the outcome tells of the step
 pub record IsAfterStep {P : Type 0} (rules : Rules) (past : Chronicle) (counts : Counts) (step : Step) (network : Network P) (outcome : Outcome) : Type 0 where
   pub stands : Stands rules (chronicle_of past step) counts network
@@ -152,38 +160,57 @@ Does rules old event new outcome =
     (past : Chronicle) (counts : Counts) → Stands rules past counts old → IsRegular old.topology.value past
     → IsAfterStep rules past counts (does rules old.topology.value past event) new outcome
 
--- the event was stopped: of each run that the network stood for, the stop is at the limit that the event reaches there
-abbrev pub StopsDoing : {P : Type 0} → Rules → Network P → Event → Stop → Type 0
-StopsDoing rules old event stop =
-    (past : Chronicle) (counts : Counts) → Stands rules past counts old → IsRegular old.topology.value past
-    → Stops rules old.topology.value past (does rules old.topology.value past event) stop
+-- any run
+abbrev pub InAny : Chronicle → Type 0
+InAny past = Unit {0}
+
+-- the result of the event. Where it is an outcome, policy and topology are as they were; and of each run that the network
+-- stood for and in which `is` holds, it is as that run has it after the event, and the outcome tells of the event there.
+-- Where it is a stop, it is at the limit that the event reaches in each such run
+pub record HappensWhere {P : Type 0} (is : Chronicle → Type 0) (rules : Rules) (old : Network P) (event : Event) (new : Network P) (result : Result Outcome Stop) : Type 0 where
+  pub others : OnOk result (IsAsWas old new)
+  pub comes : IfOk result (λ outcome. (past : Chronicle) (counts : Counts) → Stands rules past counts old → is past
+      → IsAfterStep rules past counts (does rules old.topology.value past event) new outcome)
+  pub stopped : IfErr result (λ stop. (past : Chronicle) (counts : Counts) → Stands rules past counts old → is past
+      → Stops rules old.topology.value past (does rules old.topology.value past event) stop)
+
+-- the result of the event, in regular runs
+abbrev pub Happens : {P : Type 0} → Rules → Network P → Event → Network P → Result Outcome Stop → Type 0
+Happens rules old event new result = HappensWhere (IsRegular old.topology.value) rules old event new result
+
+-- the result of the event as the next one of a regular run in which `is` holds. The event of a crashed node does nothing,
+-- and a delivery of a control message is counted, for which the counts have room
+pub record HappensNext {P : Type 0} (is : Chronicle → Type 0) (rules : Rules) (old : Network P) (event : Event) (new : Network P) (result : Result Outcome Stop) : Type 0 where
+  pub others : OnOk result (IsAsWas old new)
+  pub comes : IfOk result (λ outcome. (past : Chronicle) (counts : Counts) → Stands rules past counts old → IsRegular old.topology.value past → AreFew counts → is past
+      → IsAfterStep rules past (counts_after past event counts) (step_of rules old.topology.value past event) new outcome)
+  pub stopped : IfErr result (λ stop. (past : Chronicle) (counts : Counts) → Stands rules past counts old → IsRegular old.topology.value past → AreFew counts → is past
+      → Stops rules old.topology.value past (step_of rules old.topology.value past event) stop)
+
+-- links, packets, publications and the count of triggers are as they were
+pub record KeepsWorld {P : Type 0} (old new : Network P) : Type 0 where
+  pub links : new.links ≡ old.links
+  pub walks : new.walks ≡ old.walks
+  pub publications : new.publications ≡ old.publications
+  pub triggers : new.triggers ≡ old.triggers
 
 -- all but the flags of crashed nodes is as it was
 pub record KeepsAllButFlags {P : Type 0} (old new : Network P) : Type 0 where
+  pub world : KeepsWorld old new
   pub nodes : new.nodes ≡ old.nodes
-  pub links : new.links ≡ old.links
   pub mails : new.mails ≡ old.mails
-  pub walks : new.walks ≡ old.walks
-  pub publications : new.publications ≡ old.publications
-  pub triggers : new.triggers ≡ old.triggers
 
 -- all but the nodes is as it was
 pub record KeepsAllButNodes {P : Type 0} (old new : Network P) : Type 0 where
+  pub world : KeepsWorld old new
   pub crashed : new.crashed ≡ old.crashed
-  pub links : new.links ≡ old.links
   pub mails : new.mails ≡ old.mails
-  pub walks : new.walks ≡ old.walks
-  pub publications : new.publications ≡ old.publications
-  pub triggers : new.triggers ≡ old.triggers
 
 -- all but the control messages is as it was
 pub record KeepsAllButMails {P : Type 0} (old new : Network P) : Type 0 where
+  pub world : KeepsWorld old new
   pub nodes : new.nodes ≡ old.nodes
   pub crashed : new.crashed ≡ old.crashed
-  pub links : new.links ≡ old.links
-  pub walks : new.walks ≡ old.walks
-  pub publications : new.publications ≡ old.publications
-  pub triggers : new.triggers ≡ old.triggers
 
 -- all but links, control messages, publications and packets is as it was
 pub record KeepsNodes {P : Type 0} (old new : Network P) : Type 0 where
@@ -196,8 +223,3 @@ pub record KeepsNodes {P : Type 0} (old new : Network P) : Type 0 where
 -- from the one chronicle to the other, u becomes crashed, or running; each other node stays as it was
 abbrev pub Turns : ℕ → Bool → Chronicle → Chronicle → Type 0
 Turns u is past now = (v : ℕ) → crashed v now ≡ (if u == v then is else crashed v past)
-
--- the policy and the topology are as they were
-pub record IsAsWas {P : Type 0} (old new : Network P) : Type 0 where
-  pub policy : new.policy ≡ old.policy
-  pub topology : new.topology ≡ old.topology

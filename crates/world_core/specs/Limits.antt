@@ -20,10 +20,8 @@ use Rattle.chronicle.specs.Steps.{Step, Idle, Goes}
 use Rattle.chronicle.specs.Walks.{packets}
 use Rattle.topology.specs.declared.limits.TheConstants.{MOST_CONTROL, MOST_ENTRIES, MOST_EPOCHS, MOST_EVENTS, MOST_MARKS, MOST_PACKETS, MOST_TRIGGERS, MOST_UPDATES}
 use Rattle.node_core.specs.NodeLimits.{Reached, marks_of}
-use Rattle.node_core.specs.declared.outputs.Stop.{Stop as NodeStop}
-use Rattle.node_core.specs.declared.outputs.Stop.TheVariants as node_stop
-use Rattle.world_core.specs.declared.outcomes.Stop.{Stop}
-use Rattle.world_core.specs.declared.outcomes.Stop.TheVariants as stop
+use Rattle.node_core.specs.declared.outputs.Stop.{Stop}
+use Rattle.node_core.specs.declared.outputs.Stop.TheVariants as stop
 
 -- the epoch of some node of the network is higher than it may be
 unfoldable pub has_more_epochs : Net → Chronicle → Bool
@@ -101,11 +99,6 @@ limit_of rules net events event =
     if nat_le MOST_EVENTS (length events) then Some (record { kind = Events; number = MOST_EVENTS })
     else above_by rules net (step rules net (run rules net events) event)
 
--- a stop at a limit is at this one; memory may run out at any step
-abbrev pub StopsAt : Option Reached → Stop → Type 0
-StopsAt limit stop.NoMemory = Unit {0}
-StopsAt limit (stop.Limit kind number) = limit ≡ Some (record { kind = kind; number = number })
-
 -- an entry of the input gets a trigger of its node; entries of updates and of flushes do not
 abbrev pub makes_local : Input → Bool
 makes_local (input.Arrive v s (News number x)) = false
@@ -137,8 +130,8 @@ is_epochs Marks = false
 is_epochs Journal = false
 
 -- the stop of the run where one of its nodes stops: the triggers of all nodes come before its entries
-abbrev pub run_stop : ℕ → Bool → NodeStop → Stop
-run_stop triggers local node_stop.NoMemory = stop.NoMemory
-run_stop triggers local (node_stop.Limit kind number) =
+abbrev pub run_stop : ℕ → Bool → Stop → Stop
+run_stop triggers local stop.NoMemory = stop.NoMemory
+run_stop triggers local (stop.Limit kind number) =
     if not (is_epochs kind) && (local && nat_le MOST_TRIGGERS triggers) then stop.Limit Triggers MOST_TRIGGERS
     else stop.Limit kind number

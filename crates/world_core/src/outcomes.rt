@@ -1,10 +1,10 @@
 //! The outcome of an event.
 ghost use Rattle.std.specs.Prelude.{◌≡◌};
-ghost use Rattle.world_core.specs.declared.outcomes.Stop.TheVariants.{NoMemory};
 
 use epoch_packet::{End, Visit};
+pub use node_core::Stop;
 use std::marker::Model;
-use topology::{Epoch, LimitKind, NoMemory, NodeId, Reason};
+use topology::{Epoch, NodeId, Reason};
 
 /// One thing that an event did.
 #[derive(Clone, Copy, Debug, PartialEq, Eq)]
@@ -63,20 +63,4 @@ pub enum Outcome {
     Did(Effects),
     /// The event did nothing, for this reason.
     Idle(Reason),
-}
-
-/// Why a step was not made.
-#[derive(Clone, Copy, Debug, PartialEq, Eq)]
-pub enum Stop {
-    NoMemory,
-    /// The step would take this count above this number.
-    Limit(LimitKind, u32),
-}
-
-impl From<NoMemory> for Stop {
-    ghost from_gives = { λ _ stop. stop ≡ NoMemory };
-
-    fn from(_: NoMemory) -> Stop {
-        Stop::NoMemory
-    }
 }

@@ -7,7 +7,8 @@ ghost use Rattle.topology.specs.declared.limits.TheConstants.{MOST_EVENTS};
 ghost use Rattle.world_core.specs.Effects.{Tells};
 ghost use Rattle.world_core.specs.Fits.{fits};
 ghost use Rattle.world_core.specs.Holding.{AddsEvent, AddsDelivery, Holds, IsNext};
-ghost use Rattle.world_core.specs.Limits.{limit_of, StopsAt};
+ghost use Rattle.node_core.specs.NodeLimits.{StopsAt};
+ghost use Rattle.world_core.specs.Limits.{limit_of};
 ghost use Rattle.world_core.specs.Sound.{IsNoStray};
 ghost use Rattle.world_core.specs.Stepping.{IsStep};
 

@@ -4,10 +4,10 @@ ghost use Rattle.topology.specs.Net.{linked};
 ghost use Rattle.link_model.specs.Keeping.{IsPlaced};
 ghost use Rattle.chronicle.specs.Deliveries.{arrives};
 ghost use Rattle.chronicle.specs.Facts.{Chronicle};
-ghost use Rattle.chronicle.specs.Run.{chronicle_of, does, step};
-ghost use Rattle.world_core.specs.Counting.{AreFew, MayDeliver, counts_after};
+ghost use Rattle.chronicle.specs.Run.{chronicle_of, does};
+ghost use Rattle.world_core.specs.Counting.{MayDeliver};
 ghost use Rattle.world_core.specs.Fits.{fits};
-ghost use Rattle.world_core.specs.Happening.{IsAfterStep, IsAsWas, IsRegular, Stops};
+ghost use Rattle.world_core.specs.Happening.{HappensNext, IsAfterStep, IsAsWas, IsRegular, Stops};
 ghost use Rattle.world_core.specs.Matching.{Counts, Stands};
 ghost use Rattle.world_core.specs.Places.{HasPlaces};
 ghost use Rattle.world_core.specs.OpenWays.{AreOpen};
@@ -91,16 +91,8 @@ impl<P: Policy + Copy> Network<P> {
         requires flags { HasPlaces self.old.topology.value (length self.old.crashed.items) }
         requires mails { MayDeliver self.old.topology.value self.old.mails }
         requires walks { HasWalks self.old.topology.value self.old.walks }
-        ensures others { OnOk result (IsAsWas self.old self.new) }
-        ensures comes { IfOk result (λ outcome. (past : Chronicle) (counts : Counts) →
-            Stands (P.rules self.old.policy) past counts self.old → IsRegular self.old.topology.value past → AreFew counts →
-            AreOpen self.old.topology.value past (has_way self.old.topology.value open_ways.now) →
-            IsAfterStep (P.rules self.old.policy) past counts (step (P.rules self.old.policy) self.old.topology.value past (Event.Deliver from to)) self.new outcome) }
-        ensures stopped { IfErr result (λ stop. (past : Chronicle) (counts : Counts) →
-            Stands (P.rules self.old.policy) past counts self.old → IsRegular self.old.topology.value past → AreFew counts →
-            AreOpen self.old.topology.value past (has_way self.old.topology.value open_ways.now) →
-            Stops (P.rules self.old.policy) self.old.topology.value past
-            (step (P.rules self.old.policy) self.old.topology.value past (Event.Deliver from to)) stop) }
+        ensures { HappensNext (λ past. AreOpen self.old.topology.value past (has_way self.old.topology.value open_ways.now))
+            (P.rules self.old.policy) self.old (Event.Deliver from to) self.new result }
     {
         let Some(way) = self.waiting_way(from, to, open_ways) else {
             return self.happen(&Event::Deliver { from, to });
@@ -116,17 +108,8 @@ impl<P: Policy + Copy> Network<P> {
         requires flags { HasPlaces self.old.topology.value (length self.old.crashed.items) }
         requires mails { MayDeliver self.old.topology.value self.old.mails }
         requires walks { HasWalks self.old.topology.value self.old.walks }
-        ensures others { OnOk result (IsAsWas self.old self.new) }
-        ensures comes { IfOk result (λ outcome. (past : Chronicle) (counts : Counts) →
-            Stands (P.rules self.old.policy) past counts self.old → IsRegular self.old.topology.value past → AreFew counts →
-            AreOpen self.old.topology.value past (has_way self.old.topology.value open_ways.now) →
-            IsAfterStep (P.rules self.old.policy) past (counts_after past event.now counts)
-            (step (P.rules self.old.policy) self.old.topology.value past event.now) self.new outcome) }
-        ensures stopped { IfErr result (λ stop. (past : Chronicle) (counts : Counts) →
-            Stands (P.rules self.old.policy) past counts self.old → IsRegular self.old.topology.value past → AreFew counts →
-            AreOpen self.old.topology.value past (has_way self.old.topology.value open_ways.now) →
-            Stops (P.rules self.old.policy) self.old.topology.value past
-            (step (P.rules self.old.policy) self.old.topology.value past event.now) stop) }
+        ensures { HappensNext (λ past. AreOpen self.old.topology.value past (has_way self.old.topology.value open_ways.now))
+            (P.rules self.old.policy) self.old event.now self.new result }
     {
         if let Event::Deliver { from, to } = event {
             return self.pass_over(*from, *to, open_ways);

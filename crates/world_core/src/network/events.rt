@@ -1,18 +1,18 @@
 //! What each event does to the network.
-ghost use Rattle.std.specs.Prelude.{◌≡◌, ◌∷◌, false, true, Some, None, length, IsTrue, OnOk, IfOk, IfErr, if◌then◌else◌};
+ghost use Rattle.std.specs.Prelude.{◌≡◌, ◌∷◌, false, true, Some, None, length, IsTrue, IfOk, IfErr, if◌then◌else◌};
 ghost use Rattle.topology.specs.Net.{linked};
 ghost use Rattle.chronicle.specs.Facts.{Chronicle, Crash};
 ghost use Rattle.trigger_log.specs.Entries.{is_session};
 ghost use Rattle.topology.specs.Lists.{has};
 ghost use Rattle.chronicle.specs.Crashes.{crashed};
-ghost use Rattle.chronicle.specs.Run.{actor, addressee, does, held_with, is_carried, is_stopped, step};
+ghost use Rattle.chronicle.specs.Run.{actor, addressee, does, held_with, is_carried, is_stopped};
 ghost use Rattle.chronicle.specs.Steps.{Idle};
 ghost use Rattle.world_core.specs.Counting.{AreFew, HasMails, MayDeliver, counts_after};
 ghost use Rattle.world_core.specs.Fits.{fits};
 ghost use Rattle.chronicle.specs.Channels.{channel};
 ghost use Rattle.chronicle.specs.Deliveries.{may_arrive};
 ghost use Rattle.chronicle.specs.Links.{link};
-ghost use Rattle.world_core.specs.Happening.{IsAfterStep, Does, IsAsWas, InEachRun, IsRegular, KeepsAllButFlags, KeepsAllButMails, KeepsAllButNodes, MayArrive, Stops, StopsDoing, Turns};
+ghost use Rattle.world_core.specs.Happening.{IsAfterStep, Does, Happens, HappensNext, InAny, IsAsWas, InEachRun, KeepsAllButFlags, KeepsAllButMails, KeepsAllButNodes, MayArrive, Turns};
 ghost use Rattle.world_core.specs.Matching.{AreCrashed, AreMails, AreNodes, Counts, Stands};
 ghost use Rattle.world_core.specs.Places.{HasPlaces};
 ghost use Rattle.world_core.specs.Walks.{HasWalks};
@@ -53,15 +53,7 @@ impl<P: Policy + Copy> Network<P> {
         requires flags { HasPlaces self.old.topology.value (length self.old.crashed.items) }
         requires mails { MayDeliver self.old.topology.value self.old.mails }
         requires walks { HasWalks self.old.topology.value self.old.walks }
-        ensures others { OnOk result (IsAsWas self.old self.new) }
-        ensures comes { IfOk result (λ outcome. (past : Chronicle) (counts : Counts) →
-            Stands (P.rules self.old.policy) past counts self.old → IsRegular self.old.topology.value past → AreFew counts →
-            IsAfterStep (P.rules self.old.policy) past (counts_after past event.now counts)
-            (step (P.rules self.old.policy) self.old.topology.value past event.now) self.new outcome) }
-        ensures stopped { IfErr result (λ stop. (past : Chronicle) (counts : Counts) →
-            Stands (P.rules self.old.policy) past counts self.old → IsRegular self.old.topology.value past → AreFew counts →
-            Stops (P.rules self.old.policy) self.old.topology.value past
-            (step (P.rules self.old.policy) self.old.topology.value past event.now) stop) }
+        ensures { HappensNext InAny (P.rules self.old.policy) self.old event.now self.new result }
     {
         self.count(event);
         if self.is_stopped(event) {
@@ -156,9 +148,7 @@ impl<P: Policy + Copy> Network<P> {
         requires flags { HasPlaces self.old.topology.value (length self.old.crashed.items) }
         requires mails { HasMails self.old.topology.value self.old.mails }
         requires walks { HasWalks self.old.topology.value self.old.walks }
-        ensures others { OnOk result (IsAsWas self.old self.new) }
-        ensures comes { IfOk result (Does (P.rules self.old.policy) self.old event.now self.new) }
-        ensures stopped { IfErr result (StopsDoing (P.rules self.old.policy) self.old event.now) }
+        ensures { Happens (P.rules self.old.policy) self.old event.now self.new result }
     {
         match event {
             Event::Originate { node, prefix } => self.give(
@@ -233,9 +223,7 @@ impl<P: Policy + Copy> Network<P> {
     fn deliver(&mut self, from: NodeId, to: NodeId) -> Result<Outcome, Stop>
         requires near { linked self.old.topology.value from to ≡ true }
         requires places { HasPlaces self.old.topology.value (length self.old.nodes.items) }
-        ensures others { OnOk result (IsAsWas self.old self.new) }
-        ensures comes { IfOk result (Does (P.rules self.old.policy) self.old (Event.Deliver from to) self.new) }
-        ensures stopped { IfErr result (StopsDoing (P.rules self.old.policy) self.old (Event.Deliver from to)) }
+        ensures { Happens (P.rules self.old.policy) self.old (Event.Deliver from to) self.new result }
     {
         let session = match self.arrival(from, to) {
             Ok(session) => session,
@@ -259,9 +247,7 @@ impl<P: Policy + Copy> Network<P> {
     fn prefer(&mut self, node: NodeId, nbr: NodeId, value: u32) -> Result<Outcome, Stop>
         requires near { linked self.old.topology.value node nbr ≡ true }
         requires places { HasPlaces self.old.topology.value (length self.old.nodes.items) }
-        ensures others { OnOk result (IsAsWas self.old self.new) }
-        ensures comes { IfOk result (Does (P.rules self.old.policy) self.old (Event.Prefer node nbr value) self.new) }
-        ensures stopped { IfErr result (StopsDoing (P.rules self.old.policy) self.old (Event.Prefer node nbr value)) }
+        ensures { Happens (P.rules self.old.policy) self.old (Event.Prefer node nbr value) self.new result }
     {
         self.give(node, Input::Prefer { nbr, value }, Wanted::Effects)
     }
@@ -270,9 +256,7 @@ impl<P: Policy + Copy> Network<P> {
     fn notice(&mut self, node: NodeId, nbr: NodeId) -> Result<Outcome, Stop>
         requires near { linked self.old.topology.value node nbr ≡ true }
         requires places { HasPlaces self.old.topology.value (length self.old.nodes.items) }
-        ensures others { OnOk result (IsAsWas self.old self.new) }
-        ensures comes { IfOk result (Does (P.rules self.old.policy) self.old (Event.Notice node nbr) self.new) }
-        ensures stopped { IfErr result (StopsDoing (P.rules self.old.policy) self.old (Event.Notice node nbr)) }
+        ensures { Happens (P.rules self.old.policy) self.old (Event.Notice node nbr) self.new result }
     {
         if is_carried(&self.links.state(node, nbr), self.held(node, nbr)) {
             return Ok(Outcome::Idle(Reason::StillUp));
@@ -284,9 +268,7 @@ impl<P: Policy + Copy> Network<P> {
     fn flush(&mut self, node: NodeId, nbr: NodeId) -> Result<Outcome, Stop>
         requires near { linked self.old.topology.value node nbr ≡ true }
         requires places { HasPlaces self.old.topology.value (length self.old.nodes.items) }
-        ensures others { OnOk result (IsAsWas self.old self.new) }
-        ensures comes { IfOk result (Does (P.rules self.old.policy) self.old (Event.Flush node nbr) self.new) }
-        ensures stopped { IfErr result (StopsDoing (P.rules self.old.policy) self.old (Event.Flush node nbr)) }
+        ensures { Happens (P.rules self.old.policy) self.old (Event.Flush node nbr) self.new result }
     {
         self.give(node, Input::Flush(nbr), Wanted::Effects)
     }
@@ -295,9 +277,7 @@ impl<P: Policy + Copy> Network<P> {
     fn control(&mut self, number: u32) -> Result<Outcome, Stop>
         requires places { HasPlaces self.old.topology.value (length self.old.nodes.items) }
         requires mails { HasMails self.old.topology.value self.old.mails }
-        ensures others { OnOk result (IsAsWas self.old self.new) }
-        ensures comes { IfOk result (Does (P.rules self.old.policy) self.old (Event.Control number) self.new) }
-        ensures stopped { IfErr result (StopsDoing (P.rules self.old.policy) self.old (Event.Control number)) }
+        ensures { Happens (P.rules self.old.policy) self.old (Event.Control number) self.new result }
     {
         let Some(kept) = self.mails.kept(number) else {
             return Ok(Outcome::Idle(Reason::NoSuchMessage));
@@ -311,9 +291,7 @@ impl<P: Policy + Copy> Network<P> {
     fn open_session(&mut self, node: NodeId, nbr: NodeId) -> Result<Outcome, Stop>
         requires near { linked self.old.topology.value node nbr ≡ true }
         requires places { HasPlaces self.old.topology.value (length self.old.nodes.items) }
-        ensures others { OnOk result (IsAsWas self.old self.new) }
-        ensures comes { IfOk result (Does (P.rules self.old.policy) self.old (Event.OpenSession node nbr) self.new) }
-        ensures stopped { IfErr result (StopsDoing (P.rules self.old.policy) self.old (Event.OpenSession node nbr)) }
+        ensures { Happens (P.rules self.old.policy) self.old (Event.OpenSession node nbr) self.new result }
     {
         if self.held(node, nbr).is_some() {
             return Ok(Outcome::Idle(Reason::AlreadyOpen));

@@ -4,8 +4,7 @@ ghost use Rattle.node_core.specs.Inputs.{input_of};
 ghost use Rattle.topology.specs.declared.limits.TheConstants.{MOST_TRIGGERS};
 ghost use Rattle.world_core.specs.Limits.{makes_local, run_stop};
 
-use crate::outcomes::Stop;
-use node_core::{Input, Stop as NodeStop};
+use node_core::{Input, Stop};
 use topology::limits::MOST_TRIGGERS;
 use topology::{Item, LimitKind};
 
@@ -37,12 +36,12 @@ pub fn counted(triggers: u32, before: u32, after: u32) -> Result<u32, Stop>
 
 /// The stop of the run where a node stops. The limit on the triggers of all nodes stands behind the epochs of a node
 /// and before its entries, so a run may stop at its triggers where the node stops at its entries.
-pub fn stop_of(triggers: u32, is_local: bool, stop: NodeStop) -> Stop
+pub fn stop_of(triggers: u32, is_local: bool, stop: Stop) -> Stop
     ensures { result ≡ run_stop triggers is_local stop }
 {
     match stop {
-        NodeStop::NoMemory => Stop::NoMemory,
-        NodeStop::Limit(kind, number) => {
+        Stop::NoMemory => Stop::NoMemory,
+        Stop::Limit(kind, number) => {
             if !matches!(kind, LimitKind::Epochs) && is_local && triggers >= MOST_TRIGGERS {
                 return Stop::Limit(LimitKind::Triggers, MOST_TRIGGERS);
             }

@@ -1,12 +1,12 @@
 //! Packets enter the network, and go on.
-ghost use Rattle.std.specs.Prelude.{◌≡◌, true, is_some, None, Some, ◌<◌, length, OnOk, IfOk, IfErr, if◌then◌else◌};
+ghost use Rattle.std.specs.Prelude.{◌≡◌, true, is_some, None, Some, ◌<◌, length, IfOk, if◌then◌else◌};
 ghost use Rattle.topology.specs.LinkStates.{is_up};
 ghost use Rattle.topology.specs.Lists.{has};
 ghost use Rattle.chronicle.specs.Facts.{Chronicle};
-ghost use Rattle.chronicle.specs.Run.{does, stands_at, up_links};
+ghost use Rattle.chronicle.specs.Run.{stands_at, up_links};
 ghost use Rattle.chronicle.specs.Walks.{ending, standing};
-ghost use Rattle.world_core.specs.Happening.{IsAfterStep, IsAsWas, Stops};
-ghost use Rattle.world_core.specs.Matching.{AreLinks, Counts, Stands};
+ghost use Rattle.world_core.specs.Happening.{HappensWhere, InAny};
+ghost use Rattle.world_core.specs.Matching.{AreLinks};
 ghost use Rattle.world_core.specs.Places.{HasPlaces};
 ghost use Rattle.world_core.specs.Walks.{AreWalks, HasWalks};
 
@@ -69,14 +69,7 @@ impl<P: Policy + Copy> Network<P> {
         requires node { has self.old.topology.value.nodes node ≡ true }
         requires prefix { prefix < length self.old.topology.value.prefixes }
         requires places { HasPlaces self.old.topology.value (length self.old.nodes.items) }
-        ensures others { OnOk result (IsAsWas self.old self.new) }
-        ensures comes { IfOk result (λ outcome. (past : Chronicle) (counts : Counts) →
-            Stands (P.rules self.old.policy) past counts self.old →
-            IsAfterStep (P.rules self.old.policy) past counts (does (P.rules self.old.policy) self.old.topology.value past (Event.Inject packet node prefix)) self.new outcome) }
-        ensures stopped { IfErr result (λ stop. (past : Chronicle) (counts : Counts) →
-            Stands (P.rules self.old.policy) past counts self.old →
-            Stops (P.rules self.old.policy) self.old.topology.value past
-            (does (P.rules self.old.policy) self.old.topology.value past (Event.Inject packet node prefix)) stop) }
+        ensures { HappensWhere InAny (P.rules self.old.policy) self.old (Event.Inject packet node prefix) self.new result }
     {
         if self.walks.of(packet).is_some() {
             return Ok(Outcome::Idle(Reason::PacketKnown));
@@ -89,14 +82,7 @@ impl<P: Policy + Copy> Network<P> {
     pub fn hop(&mut self, packet: u32) -> Result<Outcome, Stop>
         requires places { HasPlaces self.old.topology.value (length self.old.nodes.items) }
         requires walks { HasWalks self.old.topology.value self.old.walks }
-        ensures others { OnOk result (IsAsWas self.old self.new) }
-        ensures comes { IfOk result (λ outcome. (past : Chronicle) (counts : Counts) →
-            Stands (P.rules self.old.policy) past counts self.old →
-            IsAfterStep (P.rules self.old.policy) past counts (does (P.rules self.old.policy) self.old.topology.value past (Event.Hop packet)) self.new outcome) }
-        ensures stopped { IfErr result (λ stop. (past : Chronicle) (counts : Counts) →
-            Stands (P.rules self.old.policy) past counts self.old →
-            Stops (P.rules self.old.policy) self.old.topology.value past
-            (does (P.rules self.old.policy) self.old.topology.value past (Event.Hop packet)) stop) }
+        ensures { HappensWhere InAny (P.rules self.old.policy) self.old (Event.Hop packet) self.new result }
     {
         let taken = match self.walks.take(packet) {
             Ok(taken) => taken,

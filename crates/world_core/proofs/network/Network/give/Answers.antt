@@ -1,12 +1,21 @@
-use Rattle.std.proofs.Common.{[], ◌≤◌, ◌∙◌, sym, refl, ap, subst, arith, length, length-set}
+use Rattle.std.proofs.Common.{ℕ, ◌+◌, ◌-◌, false, None, List, [], ◌≤◌, ◌≡◌, ◌∙◌, sym, refl, ap, subst, arith, length, length-set}
 use Rattle.std.proofs.lemmas.Result.{err_from_is_err_and}
+use Rattle.chronicle.specs.Facts.{Chronicle}
 use Rattle.chronicle.specs.Logs.{log_of}
 use Rattle.chronicle.specs.Run.{carried_by, chronicle_of}
+use Rattle.chronicle.specs.Steps.{Step}
 use Rattle.node_core.specs.Inputs.{input_of}
+use Rattle.node_core.specs.NodeLimits.{node_above, StopsAt}
 use Rattle.node_core.specs.Outputs.{Answers, told_by}
+use Rattle.node_core.specs.declared.node.Node.{Node}
+use Rattle.node_core.specs.declared.outputs.OutputList.{OutputList}
+use Rattle.node_core.specs.declared.outputs.Outputs.TheVariants.{Did}
+use Rattle.path_vector.specs.Rules.{Rules}
+use Rattle.topology.specs.Net.{Net}
 use Rattle.topology.specs.declared.limits.TheConstants.{MOST_TRIGGERS}
-use Rattle.world_core.specs.Limits.{makes_local, above_by, StopsAt}
-use Rattle.world_core.specs.Matching.{AreNodes}
+use Rattle.world_core.specs.Happening.{AreSending, MayHand}
+use Rattle.world_core.specs.Limits.{makes_local, above_by, triggers_of}
+use Rattle.world_core.specs.Matching.{AreNodes, Counts}
 use Rattle.world_core.proofs.Counts.{marks_at}
 use Rattle.world_core.proofs.Near.{is_ranked}
 use Rattle.world_core.proofs.Nodes.{inside_places, all_within, node_at}
@@ -15,6 +24,8 @@ use Rattle.world_core.proofs.Answered.{sending_begun, sent_stands, given_sent, g
 use Rattle.world_core.proofs.Returning.{comes_back}
 use Rattle.world_core.proofs.Steady.{given_flags}
 use Rattle.world_core.proofs.Telling.{begun, give_adds}
+use Rattle.world_core.proofs.network.Network.give.Given.{Over}
+use Rattle.world_core.proofs.network.Network.give.Goals.{After-next_trigger-after, In_ok-effects}
 use Rattle.world_core.proofs.network.Network.give.Goals as goal
 
 pub unwrap-rank-requires : goal.unwrap-rank-requires
@@ -99,6 +110,57 @@ index-requires-2 g c =
     let count = c.turn.new.nodes.ok.0 in
     omega (arith, inside, same, count)
 
+-- after the turn of a node that did something: the nodes are as the run has them, the node is within its counts, its
+-- outputs are those of the step, and all triggers are counted
+record IsTurned {P : Type 0} (policy : P) (rules : Rules) (net : Net) (past : Chronicle) (u : ℕ) (s : Step) (nodes : List (Node P)) (outputs : OutputList) (triggers : ℕ) : Type 0 where
+  nodes_now : AreNodes policy rules net (chronicle_of past s) nodes
+  within : node_above rules net u (chronicle_of past s) ≡ None
+  answers : Answers past s (Did outputs)
+  total : triggers ≡ triggers_of net (chronicle_of past s)
+
+turned_now : (g : Over) (c : After-next_trigger-after g) (past : Chronicle) (counts : Counts) → MayHand (g.P.Policy.rules c.args.self.now.policy) past counts c.args.node (input_of c.args.input) c.args.self.now
+    → IsTurned c.args.self.now.policy (g.P.Policy.rules c.args.self.now.policy) c.args.self.now.topology.value past c.args.node
+    (what c.args.self.now.policy g.P.Policy.rules c.args.self.now.topology.value past c.args.node c.args.input)
+    c.turn.new.nodes.items c.turn.new.outputs (c.args.self.now.triggers + (c.next_trigger-after.result.count - c.next_trigger-before.result.count))
+turned_now g c past counts may =
+    let policy = c.args.self.now.policy in
+    let rules = g.P.Policy.rules policy in
+    let net = c.args.self.now.topology.value in
+    let u = c.args.node in
+    let i = c.args.input in
+    let s = what policy g.P.Policy.rules net past u i in
+    let rank = c.unwrap-rank.result in
+    let items = c.args.self.now.nodes.items in
+    let at = rw (c.unwrap-rank.ensures, c.deref.ensures) at c.rank_of.ensures.some in
+    let turned = c.in-Ok.ensures.turned in
+    let now = nodes_given policy g.P.Policy.rules net past u i items c.turn.new.nodes.items rank turned.0 turned.1 (told_by c.in-Ok.idle c.turn.new.outputs) may.are_nodes at may.may_come turned.2 turned.4 (stay policy g.P.Policy.rules net past u i c.others_change_nothing_of_what_a_node_stands_for.ensures.given) turned.3 in
+    let before = c.next_trigger-before.ensures policy net u (log_of u past) (c.log.ensures.log policy net u past (node_at policy rules net past items may.are_nodes rank u c.index.result.now at c.index.ensures)) in
+    let after = c.next_trigger-after.ensures policy net u (log_of u (chronicle_of past s)) (c.log-2.ensures.log policy net u (chronicle_of past s) (node_at policy rules net (chronicle_of past s) c.turn.new.nodes.items now rank u c.index-2.result.now at c.index-2.ensures)) in
+    record {
+      nodes_now = now;
+      within = (new_stands policy g.P.Policy.rules net past u i items c.turn.new.nodes.items rank turned.0 turned.1 (told_by c.in-Ok.idle c.turn.new.outputs) may.are_nodes at may.may_come turned.2 turned.4).within;
+      answers = subst (λ idle. Answers past s (told_by idle c.turn.new.outputs)) c.in_default.is (new_answers policy g.P.Policy.rules net past u i items c.turn.new.nodes.items rank turned.0 turned.1 (told_by c.in-Ok.idle c.turn.new.outputs) may.are_nodes at may.may_come turned.2 turned.4);
+      total = total_given net past u (makes_local (input_of i)) s c.args.self.now.triggers c.next_trigger-before.result.count c.next_trigger-after.result.count may.are_nodes.valid c.requires.node
+          (others_same policy g.P.Policy.rules net past u i) (logs policy g.P.Policy.rules net past u i) may.counted.total (ap (λ t. t.count) before) (ap (λ t. t.count) after);
+    }
+
+-- and all that it handed out was handed on
+sent_now : (g : Over) (c : In_ok-effects g) (past : Chronicle) (counts : Counts) → MayHand (g.P.Policy.rules c.args.self.now.policy) past counts c.args.node (input_of c.args.input) c.args.self.now
+    → Answers past (what c.args.self.now.policy g.P.Policy.rules c.args.self.now.topology.value past c.args.node c.args.input) (Did c.turn.new.outputs)
+    → AreSending (λ k. false) (begun c.args.node (input_of c.args.input) past) (chronicle_of past (what c.args.self.now.policy g.P.Policy.rules c.args.self.now.topology.value past c.args.node c.args.input)) counts
+    c.hand_all.new.self (record { wanted = c.args.wanted; list = c.in_ok-effects.effects.items })
+sent_now g c past counts may answers =
+    let policy = c.args.self.now.policy in
+    let rules = g.P.Policy.rules policy in
+    let net = c.args.self.now.topology.value in
+    let u = c.args.node in
+    let i = c.args.input in
+    let mid = record c.args.self.now { nodes = c.turn.new.nodes; outputs = c.turn.new.outputs; triggers = c.in_ok-self.field-0 } in
+    let start = sending_begun past counts u (input_of i) mid c.args.wanted may.are_links may.are_mails may.are_published may.are_walks in
+    let adds = give_adds rules net (carried_by u past) u past (λ w t. refl) may.are_nodes.valid c.requires.node (input_of i) may.may_come may.sender may.passing in
+    given_sent net past counts u (input_of i) (what policy g.P.Policy.rules net past u i) c.turn.new.outputs c.turn.new.outputs mid c.hand_all.new.self (record { wanted = c.args.wanted; list = [] }) (record { wanted = c.args.wanted; list = c.in_ok-effects.effects.items }) refl adds (comes_back rules net u past (input_of i)) answers start
+    (λ away first mid facts told hands sending. c.in_ok-effects.ensures.sending away first mid counts facts told hands sending)
+
 pub returns-in_err-self-clause-stopped : goal.returns-in_err-self-clause-stopped
 returns-in_err-self-clause-stopped g c =
     let out = err_from_is_err_and c.from_residual.result c.from_residual.ensures.1 in
@@ -110,21 +172,11 @@ returns-in_err-self-clause-stopped g c =
     let u = c.args.node in
     let i = c.args.input in
     let s = what policy g.P.Policy.rules net past u i in
-    let rank = c.unwrap-rank.result in
-    let items = c.args.self.now.nodes.items in
-    let at = rw (c.unwrap-rank.ensures, c.deref.ensures) at c.rank_of.ensures.some in
-    let turned = c.in-Ok.ensures.turned in
-    let now = nodes_given policy g.P.Policy.rules net past u i items c.turn.new.nodes.items rank turned.0 turned.1 (told_by c.in-Ok.idle c.turn.new.outputs) may.are_nodes at may.may_come turned.2 turned.4 (stay policy g.P.Policy.rules net past u i c.others_change_nothing_of_what_a_node_stands_for.ensures.given) turned.3 in
-    let answers = subst (λ idle. Answers past s (told_by idle c.turn.new.outputs)) c.in_default.is (new_answers policy g.P.Policy.rules net past u i items c.turn.new.nodes.items rank turned.0 turned.1 (told_by c.in-Ok.idle c.turn.new.outputs) may.are_nodes at may.may_come turned.2 turned.4) in
-    let new = new_stands policy g.P.Policy.rules net past u i items c.turn.new.nodes.items rank turned.0 turned.1 (told_by c.in-Ok.idle c.turn.new.outputs) may.are_nodes at may.may_come turned.2 turned.4 in
-    let before = c.next_trigger-before.ensures policy net u (log_of u past) (c.log.ensures.log policy net u past (node_at policy rules net past items may.are_nodes rank u c.index.result.now at c.index.ensures)) in
-    let after = c.next_trigger-after.ensures policy net u (log_of u (chronicle_of past s)) (c.log-2.ensures.log policy net u (chronicle_of past s) (node_at policy rules net (chronicle_of past s) c.turn.new.nodes.items now rank u c.index-2.result.now at c.index-2.ensures)) in
-    let sum = total_given net past u (makes_local (input_of i)) s c.args.self.now.triggers c.next_trigger-before.result.count c.next_trigger-after.result.count may.are_nodes.valid c.requires.node
-    (others_same policy g.P.Policy.rules net past u i) (logs policy g.P.Policy.rules net past u i) may.counted.total (ap (λ t. t.count) before) (ap (λ t. t.count) after) in
+    let turned = turned_now g (goal.at.returns-in_err-self-clause-stopped g c).After-next_trigger-after past counts may in
     let stopped = c.in_err-self.ensures.stopped in
     rw (out.2, stopped.0)
     (stops_at_triggers rules net past u (makes_local (input_of i)) c.args.self.now.triggers _ s c.turn.new.outputs may.are_nodes.valid c.requires.node
-    (all_within policy rules net past items may.are_nodes) (others_same policy g.P.Policy.rules net past u i) may.counted.total may.counted.few answers sum stopped.1 new.within))
+    (all_within policy rules net past c.args.self.now.nodes.items may.are_nodes) (others_same policy g.P.Policy.rules net past u i) may.counted.total may.counted.few turned.answers turned.total stopped.1 turned.within))
 
 pub returns-in_err-check_control-clause-stopped : goal.returns-in_err-check_control-clause-stopped
 returns-in_err-check_control-clause-stopped g c =
@@ -134,28 +186,13 @@ returns-in_err-check_control-clause-stopped g c =
     let policy = c.args.self.now.policy in
     let rules = g.P.Policy.rules policy in
     let net = c.args.self.now.topology.value in
-    let u = c.args.node in
-    let i = c.args.input in
-    let s = what policy g.P.Policy.rules net past u i in
-    let rank = c.unwrap-rank.result in
-    let items = c.args.self.now.nodes.items in
-    let at = rw (c.unwrap-rank.ensures, c.deref.ensures) at c.rank_of.ensures.some in
-    let turned = c.in-Ok.ensures.turned in
-    let now = nodes_given policy g.P.Policy.rules net past u i items c.turn.new.nodes.items rank turned.0 turned.1 (told_by c.in-Ok.idle c.turn.new.outputs) may.are_nodes at may.may_come turned.2 turned.4 (stay policy g.P.Policy.rules net past u i c.others_change_nothing_of_what_a_node_stands_for.ensures.given) turned.3 in
-    let answers = subst (λ idle. Answers past s (told_by idle c.turn.new.outputs)) c.in_default.is (new_answers policy g.P.Policy.rules net past u i items c.turn.new.nodes.items rank turned.0 turned.1 (told_by c.in-Ok.idle c.turn.new.outputs) may.are_nodes at may.may_come turned.2 turned.4) in
-    let before = c.next_trigger-before.ensures policy net u (log_of u past) (c.log.ensures.log policy net u past (node_at policy rules net past items may.are_nodes rank u c.index.result.now at c.index.ensures)) in
-    let after = c.next_trigger-after.ensures policy net u (log_of u (chronicle_of past s)) (c.log-2.ensures.log policy net u (chronicle_of past s) (node_at policy rules net (chronicle_of past s) c.turn.new.nodes.items now rank u c.index-2.result.now at c.index-2.ensures)) in
-    let sum = total_given net past u (makes_local (input_of i)) s c.args.self.now.triggers c.next_trigger-before.result.count c.next_trigger-after.result.count may.are_nodes.valid c.requires.node
-    (others_same policy g.P.Policy.rules net past u i) (logs policy g.P.Policy.rules net past u i) may.counted.total (ap (λ t. t.count) before) (ap (λ t. t.count) after) in
-    let counted = c.in_ok-self.ensures.ok in
-    let net_kept = c.in_ok-effects.ensures.kept in
-    let start = sending_begun past counts u (input_of i) (record c.args.self.now { nodes = c.turn.new.nodes; outputs = c.turn.new.outputs; triggers = c.in_ok-self.field-0 }) c.args.wanted may.are_links may.are_mails may.are_published may.are_walks in
-    let adds = give_adds rules net (carried_by u past) u past (λ w t. refl) may.are_nodes.valid c.requires.node (input_of i) may.may_come may.sender may.passing in
-    let sent = given_sent net past counts u (input_of i) s c.turn.new.outputs c.turn.new.outputs (record c.args.self.now { nodes = c.turn.new.nodes; outputs = c.turn.new.outputs; triggers = c.in_ok-self.field-0 }) c.hand_all.new.self (record { wanted = c.args.wanted; list = [] }) (record { wanted = c.args.wanted; list = c.in_ok-effects.effects.items }) refl adds (comes_back rules net u past (input_of i)) answers start
-    (λ away first mid facts told hands sending. c.in_ok-effects.ensures.sending away first mid counts facts told hands sending) in
+    let s = what policy g.P.Policy.rules net past c.args.node c.args.input in
+    let turned = turned_now g (goal.at.returns-in_err-check_control-clause-stopped g c).After-next_trigger-after past counts may in
+    let sent = sent_now g (goal.at.returns-in_err-check_control-clause-stopped g c).In_ok-effects past counts may turned.answers in
+    let few = subst (λ n. n ≤ MOST_TRIGGERS) (c.in_ok-self.ensures.ok.0 ∙ turned.total) c.in_ok-self.ensures.ok.1 in
     let stopped = c.in_err-check_control.ensures.stopped in
     rw (out.2, stopped.0)
-    (stops_at_control policy rules net past c.turn.new.nodes.items s c.turn.new.outputs now (subst (λ n. n ≤ MOST_TRIGGERS) (counted.0 ∙ sum) counted.1) answers (stopped.1 (chronicle_of past s) counts sent.are_mails)))
+    (stops_at_control policy rules net past c.turn.new.nodes.items s c.turn.new.outputs turned.nodes_now few turned.answers (stopped.1 (chronicle_of past s) counts sent.are_mails)))
 
 pub returns-in_err-check_packets-clause-stopped : goal.returns-in_err-check_packets-clause-stopped
 returns-in_err-check_packets-clause-stopped g c =
@@ -165,29 +202,14 @@ returns-in_err-check_packets-clause-stopped g c =
     let policy = c.args.self.now.policy in
     let rules = g.P.Policy.rules policy in
     let net = c.args.self.now.topology.value in
-    let u = c.args.node in
-    let i = c.args.input in
-    let s = what policy g.P.Policy.rules net past u i in
-    let rank = c.unwrap-rank.result in
-    let items = c.args.self.now.nodes.items in
-    let at = rw (c.unwrap-rank.ensures, c.deref.ensures) at c.rank_of.ensures.some in
-    let turned = c.in-Ok.ensures.turned in
-    let now = nodes_given policy g.P.Policy.rules net past u i items c.turn.new.nodes.items rank turned.0 turned.1 (told_by c.in-Ok.idle c.turn.new.outputs) may.are_nodes at may.may_come turned.2 turned.4 (stay policy g.P.Policy.rules net past u i c.others_change_nothing_of_what_a_node_stands_for.ensures.given) turned.3 in
-    let answers = subst (λ idle. Answers past s (told_by idle c.turn.new.outputs)) c.in_default.is (new_answers policy g.P.Policy.rules net past u i items c.turn.new.nodes.items rank turned.0 turned.1 (told_by c.in-Ok.idle c.turn.new.outputs) may.are_nodes at may.may_come turned.2 turned.4) in
-    let before = c.next_trigger-before.ensures policy net u (log_of u past) (c.log.ensures.log policy net u past (node_at policy rules net past items may.are_nodes rank u c.index.result.now at c.index.ensures)) in
-    let after = c.next_trigger-after.ensures policy net u (log_of u (chronicle_of past s)) (c.log-2.ensures.log policy net u (chronicle_of past s) (node_at policy rules net (chronicle_of past s) c.turn.new.nodes.items now rank u c.index-2.result.now at c.index-2.ensures)) in
-    let sum = total_given net past u (makes_local (input_of i)) s c.args.self.now.triggers c.next_trigger-before.result.count c.next_trigger-after.result.count may.are_nodes.valid c.requires.node
-    (others_same policy g.P.Policy.rules net past u i) (logs policy g.P.Policy.rules net past u i) may.counted.total (ap (λ t. t.count) before) (ap (λ t. t.count) after) in
-    let counted = c.in_ok-self.ensures.ok in
-    let net_kept = c.in_ok-effects.ensures.kept in
-    let start = sending_begun past counts u (input_of i) (record c.args.self.now { nodes = c.turn.new.nodes; outputs = c.turn.new.outputs; triggers = c.in_ok-self.field-0 }) c.args.wanted may.are_links may.are_mails may.are_published may.are_walks in
-    let adds = give_adds rules net (carried_by u past) u past (λ w t. refl) may.are_nodes.valid c.requires.node (input_of i) may.may_come may.sender may.passing in
-    let sent = given_sent net past counts u (input_of i) s c.turn.new.outputs c.turn.new.outputs (record c.args.self.now { nodes = c.turn.new.nodes; outputs = c.turn.new.outputs; triggers = c.in_ok-self.field-0 }) c.hand_all.new.self (record { wanted = c.args.wanted; list = [] }) (record { wanted = c.args.wanted; list = c.in_ok-effects.effects.items }) refl adds (comes_back rules net u past (input_of i)) answers start
-    (λ away first mid facts told hands sending. c.in_ok-effects.ensures.sending away first mid counts facts told hands sending) in
-    let few = c.in_ok-check_control.ensures.ok (chronicle_of past s) counts sent.are_mails in
+    let s = what policy g.P.Policy.rules net past c.args.node c.args.input in
+    let turned = turned_now g (goal.at.returns-in_err-check_packets-clause-stopped g c).After-next_trigger-after past counts may in
+    let sent = sent_now g (goal.at.returns-in_err-check_packets-clause-stopped g c).In_ok-effects past counts may turned.answers in
+    let few = subst (λ n. n ≤ MOST_TRIGGERS) (c.in_ok-self.ensures.ok.0 ∙ turned.total) c.in_ok-self.ensures.ok.1 in
+    let few_mails = c.in_ok-check_control.ensures.ok (chronicle_of past s) counts sent.are_mails in
     let stopped = c.in_err-check_packets.ensures.stopped in
     rw (out.2, stopped.0)
-    (stops_at_packets policy rules net past c.turn.new.nodes.items s c.turn.new.outputs now (subst (λ n. n ≤ MOST_TRIGGERS) (counted.0 ∙ sum) counted.1) few answers (stopped.1 (chronicle_of past s) sent.are_walks)))
+    (stops_at_packets policy rules net past c.turn.new.nodes.items s c.turn.new.outputs turned.nodes_now few few_mails turned.answers (stopped.1 (chronicle_of past s) sent.are_walks)))
 
 pub check_marks-requires : goal.check_marks-requires
 check_marks-requires g c =
@@ -209,29 +231,17 @@ returns-in_err-check_marks-clause-stopped g c =
     let u = c.args.node in
     let i = c.args.input in
     let s = what policy g.P.Policy.rules net past u i in
-    let rank = c.unwrap-rank.result in
-    let items = c.args.self.now.nodes.items in
     let at = rw (c.unwrap-rank.ensures, c.deref.ensures) at c.rank_of.ensures.some in
-    let turned = c.in-Ok.ensures.turned in
-    let now = nodes_given policy g.P.Policy.rules net past u i items c.turn.new.nodes.items rank turned.0 turned.1 (told_by c.in-Ok.idle c.turn.new.outputs) may.are_nodes at may.may_come turned.2 turned.4 (stay policy g.P.Policy.rules net past u i c.others_change_nothing_of_what_a_node_stands_for.ensures.given) turned.3 in
-    let answers = subst (λ idle. Answers past s (told_by idle c.turn.new.outputs)) c.in_default.is (new_answers policy g.P.Policy.rules net past u i items c.turn.new.nodes.items rank turned.0 turned.1 (told_by c.in-Ok.idle c.turn.new.outputs) may.are_nodes at may.may_come turned.2 turned.4) in
-    let before = c.next_trigger-before.ensures policy net u (log_of u past) (c.log.ensures.log policy net u past (node_at policy rules net past items may.are_nodes rank u c.index.result.now at c.index.ensures)) in
-    let after = c.next_trigger-after.ensures policy net u (log_of u (chronicle_of past s)) (c.log-2.ensures.log policy net u (chronicle_of past s) (node_at policy rules net (chronicle_of past s) c.turn.new.nodes.items now rank u c.index-2.result.now at c.index-2.ensures)) in
-    let sum = total_given net past u (makes_local (input_of i)) s c.args.self.now.triggers c.next_trigger-before.result.count c.next_trigger-after.result.count may.are_nodes.valid c.requires.node
-    (others_same policy g.P.Policy.rules net past u i) (logs policy g.P.Policy.rules net past u i) may.counted.total (ap (λ t. t.count) before) (ap (λ t. t.count) after) in
-    let counted = c.in_ok-self.ensures.ok in
-    let net_kept = c.in_ok-effects.ensures.kept in
-    let start = sending_begun past counts u (input_of i) (record c.args.self.now { nodes = c.turn.new.nodes; outputs = c.turn.new.outputs; triggers = c.in_ok-self.field-0 }) c.args.wanted may.are_links may.are_mails may.are_published may.are_walks in
-    let adds = give_adds rules net (carried_by u past) u past (λ w t. refl) may.are_nodes.valid c.requires.node (input_of i) may.may_come may.sender may.passing in
-    let sent = given_sent net past counts u (input_of i) s c.turn.new.outputs c.turn.new.outputs (record c.args.self.now { nodes = c.turn.new.nodes; outputs = c.turn.new.outputs; triggers = c.in_ok-self.field-0 }) c.hand_all.new.self (record { wanted = c.args.wanted; list = [] }) (record { wanted = c.args.wanted; list = c.in_ok-effects.effects.items }) refl adds (comes_back rules net u past (input_of i)) answers start
-    (λ away first mid facts told hands sending. c.in_ok-effects.ensures.sending away first mid counts facts told hands sending) in
-    let few = c.in_ok-check_control.ensures.ok (chronicle_of past s) counts sent.are_mails in
+    let turned = turned_now g (goal.at.returns-in_err-check_marks-clause-stopped g c).After-next_trigger-after past counts may in
+    let sent = sent_now g (goal.at.returns-in_err-check_marks-clause-stopped g c).In_ok-effects past counts may turned.answers in
+    let few = subst (λ n. n ≤ MOST_TRIGGERS) (c.in_ok-self.ensures.ok.0 ∙ turned.total) c.in_ok-self.ensures.ok.1 in
+    let few_mails = c.in_ok-check_control.ensures.ok (chronicle_of past s) counts sent.are_mails in
     let few_packets = c.in_ok-check_packets.ensures.ok (chronicle_of past s) sent.are_walks in
-    let kept = subst (λ nodes. AreNodes policy rules net (chronicle_of past s) nodes.items) (sym net_kept.nodes) now in
+    let kept = subst (λ nodes. AreNodes policy rules net (chronicle_of past s) nodes.items) (sym c.in_ok-effects.ensures.kept.nodes) turned.nodes_now in
     let stopped = c.in_err-check_marks.ensures.stopped in
     let many = marks_at rules net past (chronicle_of past s) u c.requires.node (others_same policy g.P.Policy.rules net past u i) may.counted.few_marks ∙ stopped.1 policy net (chronicle_of past s) u kept at in
     rw (out.2, stopped.0)
-    (stops_at_marks policy rules net past c.turn.new.nodes.items s c.turn.new.outputs now (subst (λ n. n ≤ MOST_TRIGGERS) (counted.0 ∙ sum) counted.1) few few_packets answers many))
+    (stops_at_marks policy rules net past c.turn.new.nodes.items s c.turn.new.outputs turned.nodes_now few few_mails few_packets turned.answers many))
 
 pub returns-clause-stands : goal.returns-clause-stands
 returns-clause-stands g c past counts may =
@@ -241,47 +251,22 @@ returns-clause-stands g c past counts may =
     let u = c.args.node in
     let i = c.args.input in
     let s = what policy g.P.Policy.rules net past u i in
-    let rank = c.unwrap-rank.result in
-    let items = c.args.self.now.nodes.items in
     let at = rw (c.unwrap-rank.ensures, c.deref.ensures) at c.rank_of.ensures.some in
-    let turned = c.in-Ok.ensures.turned in
-    let now = nodes_given policy g.P.Policy.rules net past u i items c.turn.new.nodes.items rank turned.0 turned.1 (told_by c.in-Ok.idle c.turn.new.outputs) may.are_nodes at may.may_come turned.2 turned.4 (stay policy g.P.Policy.rules net past u i c.others_change_nothing_of_what_a_node_stands_for.ensures.given) turned.3 in
-    let answers = subst (λ idle. Answers past s (told_by idle c.turn.new.outputs)) c.in_default.is (new_answers policy g.P.Policy.rules net past u i items c.turn.new.nodes.items rank turned.0 turned.1 (told_by c.in-Ok.idle c.turn.new.outputs) may.are_nodes at may.may_come turned.2 turned.4) in
-    let before = c.next_trigger-before.ensures policy net u (log_of u past) (c.log.ensures.log policy net u past (node_at policy rules net past items may.are_nodes rank u c.index.result.now at c.index.ensures)) in
-    let after = c.next_trigger-after.ensures policy net u (log_of u (chronicle_of past s)) (c.log-2.ensures.log policy net u (chronicle_of past s) (node_at policy rules net (chronicle_of past s) c.turn.new.nodes.items now rank u c.index-2.result.now at c.index-2.ensures)) in
-    let sum = total_given net past u (makes_local (input_of i)) s c.args.self.now.triggers c.next_trigger-before.result.count c.next_trigger-after.result.count may.are_nodes.valid c.requires.node
-    (others_same policy g.P.Policy.rules net past u i) (logs policy g.P.Policy.rules net past u i) may.counted.total (ap (λ t. t.count) before) (ap (λ t. t.count) after) in
-    let counted = c.in_ok-self.ensures.ok in
-    let net_kept = c.in_ok-effects.ensures.kept in
-    let start = sending_begun past counts u (input_of i) (record c.args.self.now { nodes = c.turn.new.nodes; outputs = c.turn.new.outputs; triggers = c.in_ok-self.field-0 }) c.args.wanted may.are_links may.are_mails may.are_published may.are_walks in
-    let adds = give_adds rules net (carried_by u past) u past (λ w t. refl) may.are_nodes.valid c.requires.node (input_of i) may.may_come may.sender may.passing in
-    let sent = given_sent net past counts u (input_of i) s c.turn.new.outputs c.turn.new.outputs (record c.args.self.now { nodes = c.turn.new.nodes; outputs = c.turn.new.outputs; triggers = c.in_ok-self.field-0 }) c.hand_all.new.self (record { wanted = c.args.wanted; list = [] }) (record { wanted = c.args.wanted; list = c.in_ok-effects.effects.items }) refl adds (comes_back rules net u past (input_of i)) answers start
-    (λ away first mid facts told hands sending. c.in_ok-effects.ensures.sending away first mid counts facts told hands sending) in
-    let few = c.in_ok-check_control.ensures.ok (chronicle_of past s) counts sent.are_mails in
+    let turned = turned_now g (goal.at.returns-clause-stands g c).After-next_trigger-after past counts may in
+    let sent = sent_now g (goal.at.returns-clause-stands g c).In_ok-effects past counts may turned.answers in
+    let few_mails = c.in_ok-check_control.ensures.ok (chronicle_of past s) counts sent.are_mails in
     let few_packets = c.in_ok-check_packets.ensures.ok (chronicle_of past s) sent.are_walks in
-    let kept = subst (λ nodes. AreNodes policy rules net (chronicle_of past s) nodes.items) (sym net_kept.nodes) now in
+    let kept = subst (λ nodes. AreNodes policy rules net (chronicle_of past s) nodes.items) (sym c.in_ok-effects.ensures.kept.nodes) turned.nodes_now in
     let few_marks = marks_at rules net past (chronicle_of past s) u c.requires.node (others_same policy g.P.Policy.rules net past u i) may.counted.few_marks ∙ c.in_ok-check_marks.ensures.ok policy net (chronicle_of past s) u kept at in
-    sent_stands rules past s counts (record c.args.self.now { nodes = c.turn.new.nodes; outputs = c.turn.new.outputs; triggers = c.in_ok-self.field-0 }) c.hand_all.new.self (record { wanted = c.args.wanted; list = c.in_ok-effects.effects.items }) (begun u (input_of i) past) net_kept now
-    (given_flags rules net past u (input_of i) c.args.self.now.crashed.items may.are_crashed) (counted.0 ∙ sum) counted.1 few few_packets few_marks sent
+    let counted = c.in_ok-self.ensures.ok in
+    sent_stands rules past s counts (record c.args.self.now { nodes = c.turn.new.nodes; outputs = c.turn.new.outputs; triggers = c.in_ok-self.field-0 }) c.hand_all.new.self (record { wanted = c.args.wanted; list = c.in_ok-effects.effects.items }) (begun u (input_of i) past) c.in_ok-effects.ensures.kept turned.nodes_now
+    (given_flags rules net past u (input_of i) c.args.self.now.crashed.items may.are_crashed) (counted.0 ∙ turned.total) counted.1 few_mails few_packets few_marks sent
 
 pub returns-clause-comes : goal.returns-clause-comes
 returns-clause-comes g c wanted past counts may =
-    let policy = c.args.self.now.policy in
-    let rules = g.P.Policy.rules policy in
-    let net = c.args.self.now.topology.value in
-    let u = c.args.node in
-    let i = c.args.input in
-    let s = what policy g.P.Policy.rules net past u i in
-    let rank = c.unwrap-rank.result in
-    let items = c.args.self.now.nodes.items in
-    let at = rw (c.unwrap-rank.ensures, c.deref.ensures) at c.rank_of.ensures.some in
-    let turned = c.in-Ok.ensures.turned in
-    let answers = subst (λ idle. Answers past s (told_by idle c.turn.new.outputs)) c.in_default.is (new_answers policy g.P.Policy.rules net past u i items c.turn.new.nodes.items rank turned.0 turned.1 (told_by c.in-Ok.idle c.turn.new.outputs) may.are_nodes at may.may_come turned.2 turned.4) in
-    let start = sending_begun past counts u (input_of i) (record c.args.self.now { nodes = c.turn.new.nodes; outputs = c.turn.new.outputs; triggers = c.in_ok-self.field-0 }) c.args.wanted may.are_links may.are_mails may.are_published may.are_walks in
-    let adds = give_adds rules net (carried_by u past) u past (λ w t. refl) may.are_nodes.valid c.requires.node (input_of i) may.may_come may.sender may.passing in
-    let sent = given_sent net past counts u (input_of i) s c.turn.new.outputs c.turn.new.outputs (record c.args.self.now { nodes = c.turn.new.nodes; outputs = c.turn.new.outputs; triggers = c.in_ok-self.field-0 }) c.hand_all.new.self (record { wanted = c.args.wanted; list = [] }) (record { wanted = c.args.wanted; list = c.in_ok-effects.effects.items }) refl adds (comes_back rules net u past (input_of i)) answers start
-    (λ away first mid facts told hands sending. c.in_ok-effects.ensures.sending away first mid counts facts told hands sending) in
+    let turned = turned_now g (goal.at.returns-clause-comes g c).After-next_trigger-after past counts may in
+    let sent = sent_now g (goal.at.returns-clause-comes g c).In_ok-effects past counts may turned.answers in
     record {
       stands = returns-clause-stands g c past counts may;
-      tells = rw c.new.ensures (given_tells past u (input_of i) s c.turn.new.outputs c.in_ok-effects.effects.items answers (sent.since wanted));
+      tells = rw c.new.ensures (given_tells past c.args.node (input_of c.args.input) (what c.args.self.now.policy g.P.Policy.rules c.args.self.now.topology.value past c.args.node c.args.input) c.turn.new.outputs c.in_ok-effects.effects.items turned.answers (sent.since wanted));
     }

@@ -1,5 +1,5 @@
 use Rattle.std.proofs.Common.{◌∙◌, sym}
-use Rattle.std.proofs.lemmas.Result.{IfOk-weaker, IfErr-weaker}
+use Rattle.std.proofs.lemmas.Result.{IfOk-weaker, IfErr-weaker, on_ok_weaker}
 use Rattle.topology.specs.declared.status.Reason.TheVariants.{Crashed}
 use Rattle.world_core.specs.Counting.{counts_after}
 use Rattle.world_core.proofs.AfterSteps.{idle}
@@ -7,17 +7,21 @@ use Rattle.world_core.proofs.Counted.{counted_stands, regular_by_new, runs_on, s
 use Rattle.world_core.proofs.Crashing.{step_stopped}
 use Rattle.world_core.proofs.network.Network.happen.Goals as goal
 
-pub returns-then-is_stopped-clause-comes : goal.returns-then-is_stopped-clause-comes
-returns-then-is_stopped-clause-comes g c past counts was regular few =
-    let old = c.args.self.now in
-    let rules = g.P.Policy.rules in
-    let event = c.args.event.now in
-    let now = counts_after past event counts in
-    let new = c.count.new.self in
-    let same = c.count.ensures.others in
-    let stands = counted_stands rules past old new same counts now c.count.ensures.kept was (c.count.ensures.counted past counts was.are_mails few) in
-    let stopped = sym (c.is_stopped.ensures past now (stands_by_new rules past old new same now stands) (rw same.topology c.requires.fits)) ∙ c.if-is_stopped.true in
-    idle (rules old.policy) past now _ _ Crashed (step_stopped (rules old.policy) old.topology.value past event (rw same.topology at stopped)) stands
+pub returns-then-is_stopped : goal.returns-then-is_stopped
+returns-then-is_stopped g c = record {
+  others = c.count.ensures.others;
+  comes = λ past counts was regular few any.
+      let old = c.args.self.now in
+      let rules = g.P.Policy.rules in
+      let event = c.args.event.now in
+      let now = counts_after past event counts in
+      let new = c.count.new.self in
+      let same = c.count.ensures.others in
+      let stands = counted_stands rules past old new same counts now c.count.ensures.kept was (c.count.ensures.counted past counts was.are_mails few) in
+      let stopped = sym (c.is_stopped.ensures past now (stands_by_new rules past old new same now stands) (rw same.topology c.requires.fits)) ∙ c.if-is_stopped.true in
+      idle (rules old.policy) past now _ _ Crashed (step_stopped (rules old.policy) old.topology.value past event (rw same.topology at stopped)) stands;
+  stopped = tt;
+}
 
 pub act-requires-clause-mails : goal.act-requires-clause-mails
 act-requires-clause-mails g c =
@@ -31,32 +35,29 @@ act-requires-clause-mails g c =
 pub act-requires-clause-walks : goal.act-requires-clause-walks
 act-requires-clause-walks g c =
     let walks = c.requires.walks in
-    record { past = walks.past; are_walks = rw (c.count.ensures.others.topology, c.count.ensures.kept.walks) walks.are_walks }
+    record { past = walks.past; are_walks = rw (c.count.ensures.others.topology, c.count.ensures.kept.world.walks) walks.are_walks }
 
-pub returns-clause-comes : goal.returns-clause-comes
-returns-clause-comes g c = IfOk-weaker c.act.result _ _
-    (λ r h past counts was regular few.
+pub returns : goal.returns
+returns g c =
     let old = c.args.self.now in
     let rules = g.P.Policy.rules in
     let event = c.args.event.now in
-    let now = counts_after past event counts in
     let new = c.count.new.self in
     let same = c.count.ensures.others in
-    let stands = stands_by_new rules past old new same now (counted_stands rules past old new same counts now c.count.ensures.kept was (c.count.ensures.counted past counts was.are_mails few)) in
-    let runs = sym (c.is_stopped.ensures past now stands (rw same.topology c.requires.fits)) ∙ c.if-is_stopped.false in
-    runs_on rules past old new same now event c.act.new.self r (rw same.topology at runs) (h past now stands (regular_by_new rules past old new same regular)))
-    c.act.ensures.comes
-
-pub returns-clause-stopped : goal.returns-clause-stopped
-returns-clause-stopped g c = IfErr-weaker c.act.result _ _
-    (λ why h past counts was regular few.
-    let old = c.args.self.now in
-    let rules = g.P.Policy.rules in
-    let event = c.args.event.now in
-    let now = counts_after past event counts in
-    let new = c.count.new.self in
-    let same = c.count.ensures.others in
-    let stands = stands_by_new rules past old new same now (counted_stands rules past old new same counts now c.count.ensures.kept was (c.count.ensures.counted past counts was.are_mails few)) in
-    let runs = sym (c.is_stopped.ensures past now stands (rw same.topology c.requires.fits)) ∙ c.if-is_stopped.false in
-    stops_on rules past old new same event why (rw same.topology at runs) (h past now stands (regular_by_new rules past old new same regular)))
-    c.act.ensures.stopped
+    record {
+      others = on_ok_weaker c.act.result (λ h. record { policy = h.policy ∙ same.policy; topology = h.topology ∙ same.topology }) c.act.ensures.others;
+      comes = IfOk-weaker c.act.result _ _
+          (λ r h past counts was regular few any.
+          let now = counts_after past event counts in
+          let stands = stands_by_new rules past old new same now (counted_stands rules past old new same counts now c.count.ensures.kept was (c.count.ensures.counted past counts was.are_mails few)) in
+          let runs = sym (c.is_stopped.ensures past now stands (rw same.topology c.requires.fits)) ∙ c.if-is_stopped.false in
+          runs_on rules past old new same now event c.act.new.self r (rw same.topology at runs) (h past now stands (regular_by_new rules past old new same regular)))
+          c.act.ensures.comes;
+      stopped = IfErr-weaker c.act.result _ _
+          (λ why h past counts was regular few any.
+          let now = counts_after past event counts in
+          let stands = stands_by_new rules past old new same now (counted_stands rules past old new same counts now c.count.ensures.kept was (c.count.ensures.counted past counts was.are_mails few)) in
+          let runs = sym (c.is_stopped.ensures past now stands (rw same.topology c.requires.fits)) ∙ c.if-is_stopped.false in
+          stops_on rules past old new same event why (rw same.topology at runs) (h past now stands (regular_by_new rules past old new same regular)))
+          c.act.ensures.stopped;
+    }

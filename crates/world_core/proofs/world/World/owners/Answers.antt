@@ -1,13 +1,11 @@
 use Rattle.std.proofs.Common.{◌≡◌, ◌∙◌, ◌++◌, [], ◌∷◌, Bool, true, ℕ, length, refl, sym, ap}
-use Rattle.std.proofs.lemmas.Option.{slice_get_read}
-use Rattle.topology.specs.Lists.{has, ascending}
+use Rattle.topology.specs.Lists.{ascending}
 use Rattle.topology.specs.Net.{Net}
-use Rattle.topology.proofs.Ascending.{has-ascending}
-use Rattle.topology.proofs.Places.{has_placed}
 use Rattle.path_vector.specs.History.{owns}
 use Rattle.trigger_log.specs.Entries.{reads}
 use Rattle.chronicle.specs.Logs.{log_of}
 use Rattle.chronicle.specs.Run.{run}
+use Rattle.world_core.proofs.Nodes.{node_here}
 use Rattle.world_core.proofs.Listed.{passes_more, fails_more}
 use Rattle.world_core.proofs.world.World.owners.Goals as goal
 use Rattle.world_core.proofs.world.World.owners.Goals.{then-owns+in_ok-push, else-owns}
@@ -20,9 +18,7 @@ loop-id-preserved g c =
     let near = c.nodes-id-items.result.now in
     let i = c.loop-id.id-index in
     let x = c.id-item.result in
-    let here = slice_get_read near (length near) i x refl c.loop-id-test.true c.id-item.is in
-    let are : near ≡ ascending world.net.nodes = c.nodes-id-items.ensures.nodes ∙ ap (λ (t : Net). ascending t.nodes) c.topology.ensures in
-    let node : has world.net.nodes x ≡ true = sym (has-ascending world.net.nodes x) ∙ (ap (λ l. has l x) (sym are) ∙ has_placed near i x here) in
+    let node = node_here world.net near i x (c.nodes-id-items.ensures.nodes ∙ ap (λ (t : Net). ascending t.nodes) c.topology.ensures) c.loop-id-test.true c.id-item.is in
     let own : c.owns.result ≡ test x = c.owns.ensures node in
     record {
       so_far = elim c.if-owns.branch [
