@@ -76,12 +76,12 @@ up_is net u w (x ∷ up) all there =
     ]) refl there
 
 module _ (rules : Rules) (net : Net) (u : ℕ) (valid : IsValid net) (own : has net.nodes u ≡ true) (carried : Carried) where
-  -- a step is idle for a reason, or else does this
+  -- a step is fine that is idle for a reason, or fine where there is none
   unless_fine : (why : Option Reason) (now : Chronicle) → (why ≡ None → Fine rules net u (Goes now)) → Fine rules net u (unless why now)
   unless_fine None now fine = fine refl
   unless_fine (Some why) now fine = tt
 
-  -- an entry of the node's own
+  -- the step in which u makes an entry of its own is fine, if the facts fit once the entry is made
   own_entry : (scope : Scope) (cause : Cause) (now : Chronicle) → (Within rules net u (log_of u now) → AllFacts net u now) → Fits (log_of u now) → CauseFits (log_of u now) scope cause
       → ListsFor scope (next_trigger u (log_of u now) ∷ []) → scope_fits net scope ≡ true → cause_fits net u cause ≡ true → Fine rules net u (Goes (write rules net carried u (local u (log_of u now) scope cause) now))
   own_entry scope cause now all fitting follows lists scoped is within low =
@@ -91,24 +91,24 @@ module _ (rules : Rules) (net : Net) (u : ℕ) (valid : IsValid net) (own : has 
       let before = within_before rules net u k h more in
       write_fits rules net u valid own carried k now (all before) (local_is net u h scope cause own before.entries lists scoped is) (follows, fitting) more
 
-  -- an own entry lists something
+  -- the next trigger of a node is a list that is not empty
   some_next : (now : Chronicle) → (next_trigger u (log_of u now) ∷ []) ≢ []
   some_next now none = absurd (cc none)
 
   module _ (past : Chronicle) (all : AllFacts net u past) (fitting : Fits (log_of u past)) (listed : Reportable rules net u (log_of u past)) where
-    -- a local entry here
+    -- the step in which u makes a local entry of this cause is fine
     here_fine : (scope : Scope) (cause : Cause) → CauseFits (log_of u past) scope cause → ListsFor scope (next_trigger u (log_of u past) ∷ []) → scope_fits net scope ≡ true → cause_fits net u cause ≡ true
         → Fine rules net u (Goes (write rules net carried u (local u (log_of u past) scope cause) past))
     here_fine scope cause follows lists scoped is = own_entry scope cause past (λ within. all) fitting follows lists scoped is
 
-    -- the session that is held is over
+    -- the step in which u closes a session that is over is fine
     notices_fine : (v : ℕ) (session : Option ℕ) → has (neighbours net u) v ≡ true → held (reads (log_of u past)) v ≡ session
         → Fine rules net u (closes session (λ s. write rules net carried u (local u (log_of u past) All (cause.Down v s)) past))
     notices_fine v None near is = tt
     notices_fine v (Some s) near is =
         here_fine All (cause.Down v s) is (some_next past) refl (and_both (has (neighbours net u) v) (is_number s) near (held_number net u (log_of u past) v s (log_fits net u past all) is))
 
-    -- a session is opened
+    -- the step in which u opens a session is fine
     opens_fine : (v s : ℕ) (session : Option ℕ) → has (neighbours net u) v ≡ true → is_number s ≡ true → Fine rules net u (opens carried u past v s session)
     opens_fine v s (Some t) near number = tt
     opens_fine v s None near number =
@@ -121,7 +121,7 @@ module _ (rules : Rules) (net : Net) (u : ℕ) (valid : IsValid net) (own : has 
           | false ↦ tt
         ]
 
-    -- a snapshot begins
+    -- the step in which u begins a snapshot is fine
     snap_fine : Fine rules net u (Goes (raise rules net carried u (suc (epoch u past)) past))
     snap_fine within low =
         let e = suc (epoch u past) in
@@ -129,7 +129,7 @@ module _ (rules : Rules) (net : Net) (u : ℕ) (valid : IsValid net) (own : has 
         raise_fits rules net u valid own carried e past all (and_both (nat_le 1 e) (nat_le e MOST_EPOCHS) (most_is 1 e (omega arith)) (most_is e MOST_EPOCHS (omega arith))) fitting
         (subst (Within rules net u) (log_raise rules net carried u e past u) within) listed
 
-    -- what is held back goes out
+    -- the step in which u sends what it holds back is fine
     flushes_fine : (v : ℕ) (session : Option ℕ) → has (neighbours net u) v ≡ true → held (reads (log_of u past)) v ≡ session → Fine rules net u (flushes rules net carried u past v session)
     flushes_fine v None near is = tt
     flushes_fine v (Some s) near is =
@@ -142,14 +142,14 @@ module _ (rules : Rules) (net : Net) (u : ℕ) (valid : IsValid net) (own : has 
     -- ---- an item that comes
 
     module _ (v s : ℕ) (near : has (neighbours net u) v ≡ true) (number : is_number s ≡ true) where
-      -- it is taken
+      -- all facts fit after u takes the item
       took_fits : (x : Item) → item_fits net v x ≡ true → AllFacts net u (Took v u s x ∷ past)
       took_fits x is =
           one_more net u (Took v u s x) past
           (and_both (u == u) (has (neighbours net u) v && (is_number s && item_fits net v x)) (same_refl u)
           (and_both (has (neighbours net u) v) (is_number s && item_fits net v x) near (and_both (is_number s) (item_fits net v x) number is))) all
 
-      -- a mark is met
+      -- all facts fit after u takes and meets a mark
       met_fits : (x : Item) (e : ℕ) → item_fits net v x ≡ true → e ≤ MOST_EPOCHS → Within rules net u (log_of u past) → AllFacts net u (meet_mark rules net carried u e (Took v u s x ∷ past))
       met_fits x e is low few =
           (elim (nat_lt (epoch u past) e) as (λ t. nat_lt (epoch u past) e ≡ t → AllFacts net u (cond t (raise rules net carried u e (Took v u s x ∷ past)) (Took v u s x ∷ past))) [
@@ -160,7 +160,7 @@ module _ (rules : Rules) (net : Net) (u : ℕ) (valid : IsValid net) (own : has 
             | false ↦ λ below. took_fits x is
           ]) refl
 
-      -- that changes no log
+      -- a mark that is taken and met changes no log
       met_log : (x : Item) (e : ℕ) → log_of u (meet_mark rules net carried u e (Took v u s x ∷ past)) ≡ log_of u past
       met_log x e =
           elim (nat_lt (epoch u past) e) as (λ t. log_of u (cond t (raise rules net carried u e (Took v u s x ∷ past)) (Took v u s x ∷ past)) ≡ log_of u past) [
@@ -168,7 +168,7 @@ module _ (rules : Rules) (net : Net) (u : ℕ) (valid : IsValid net) (own : has 
             | false ↦ refl
           ]
 
-      -- a greeting is answered by an entry, where it is the first
+      -- the step in which u takes a greeting is fine, with the entry that the first greeting makes
       greeted_fine : (x : Item) (e : ℕ) (is_ready : Option ℕ) → item_fits net v x ≡ true → e ≤ MOST_EPOCHS → held (reads (log_of u past)) v ≡ Some s → ready (reads (log_of u past)) v ≡ is_ready
           → let met = meet_mark rules net carried u e (Took v u s x ∷ past) in
           Fine rules net u (Goes (unless_ready is_ready met (write rules net carried u (local u (log_of u met) All (cause.Ready v s)) met)))
@@ -180,7 +180,7 @@ module _ (rules : Rules) (net : Net) (u : ℕ) (valid : IsValid net) (own : has 
           own_entry All (cause.Ready v s) met (λ within. met_fits x e is low (subst (Within rules net u) (met_log x e) within)) (subst Fits (sym (met_log x e)) fitting)
           (subst (λ l. (held (reads l) v ≡ Some s) × (opened (reads l) v s ≡ false)) (sym (met_log x e)) there) (some_next met) refl (and_both (has (neighbours net u) v) (is_number s) near number)
 
-      -- an update is entered
+      -- the step in which u takes and enters an update is fine
       news_fine : (n : ℕ) (x : Update) → item_fits net v (News n x) ≡ true → held (reads (log_of u past)) v ≡ Some s → n ≡ suc (length (inbox (log_of u past) v s))
           → Fine rules net u (Goes (write rules net carried u (heard v s n x) (Took v u s (News n x) ∷ past)))
       news_fine n x is holds turn within low =
@@ -205,7 +205,7 @@ module _ (rules : Rules) (net : Net) (u : ℕ) (valid : IsValid net) (own : has 
             | false ↦ λ e f. absurd (cc f)
           ]) refl q
 
-      -- an item is taken
+      -- the step in which u takes an item is fine
       taken_fine : (x : Item) → item_fits net v x ≡ true → held (reads (log_of u past)) v ≡ Some s → out_of_turn (suc (length (inbox (log_of u past) v s))) x ≡ None
           → Fine rules net u (Goes (take_item rules net carried u (arrival v s x) past))
       unfolding take_item
@@ -214,7 +214,7 @@ module _ (rules : Rules) (net : Net) (u : ℕ) (valid : IsValid net) (own : has 
           λ within low. met_fits (Marker e) e is (most_from e MOST_EPOCHS (and_right (nat_le 1 e) (nat_le e MOST_EPOCHS) is)) (subst (Within rules net u) (met_log (Marker e) e) within)
       taken_fine (Hello e) is holds turn = greeted_fine (Hello e) e (ready (reads (log_of u past)) v) is (most_from e MOST_EPOCHS is) holds refl
 
-      -- an item comes, in the session that is held or another
+      -- the step in which an item comes is fine, whether u holds its session or not
       comes_fine : (x : Item) (session : Option ℕ) → item_fits net v x ≡ true → held (reads (log_of u past)) v ≡ session
           → Fine rules net u (if not (is_session session s) then Idle reason.WrongSession
           else unless (out_of_turn (suc (length (inbox (log_of u past) v s))) x) (take_item rules net carried u (arrival v s x) past))
@@ -229,11 +229,11 @@ module _ (rules : Rules) (net : Net) (u : ℕ) (valid : IsValid net) (own : has 
 
     -- ---- packets
 
-    -- a packet for a node
+    -- all facts fit after a packet comes to a node
     visit_fits : (w : ℕ) (packet : Packet) → has net.nodes w ≡ true → packet_fits net packet ≡ true → AllFacts net u (Visit w packet ∷ past)
     visit_fits w packet node is = one_more net u (Visit w packet) past (and_both (has net.nodes w) (packet_fits net packet) node is) all
 
-    -- a packet enters
+    -- all facts fit after a packet enters
     injects_fits : (id p : ℕ) → is_number id ≡ true → nat_lt p (length net.prefixes) ≡ true → AllFacts net u (injects net u past id p)
     unfolding injects
     injects_fits id p number placed =
@@ -244,11 +244,11 @@ module _ (rules : Rules) (net : Net) (u : ℕ) (valid : IsValid net) (own : has 
       up_node : (w : ℕ) → has up w ≡ true → has net.nodes w ≡ true
       up_node w there = neighbour_is net u w valid (up_is net u w up links there)
 
-      -- its number
+      -- the number of a packet that fits has four bytes
       few_packets : nat_lt packet.id (2 ^ 32) ≡ true
       few_packets = and_right (nat_le 1 packet.id) (nat_lt packet.id (2 ^ 32)) (parts_of net packet is).number
 
-      -- it goes along a path of a table
+      -- all facts fit after a packet goes along a path of a table
       along_fits : (path : List ℕ) → AllFacts net u (on_tables net u past packet (along up path))
       along_fits [] = visit_fits u (turned net u packet) own (turned_fits net packet u valid is)
       along_fits (x ∷ []) = one_more net u (End packet.id Delivered) past few_packets all
@@ -258,17 +258,17 @@ module _ (rules : Rules) (net : Net) (u : ℕ) (valid : IsValid net) (own : has 
             | false ↦ λ e. visit_fits u (turned net u packet) own (turned_fits net packet u valid is)
           ]) refl
 
-      -- or there is none
+      -- all facts fit after a hop by the tables, whether there is a path or not
       stable_fits : (path : Option (List ℕ)) → AllFacts net u (on_tables net u past packet (stable_step path up))
       stable_fits None = visit_fits u (turned net u packet) own (turned_fits net packet u valid is)
       stable_fits (Some path) = along_fits path
 
-      -- it goes off the tables
+      -- all facts fit after a hop off the tables
       off_fits : (h : Hop) → MoveFits net up h → AllFacts net u (off_tables past packet h)
       off_fits (transient.Next w moved) goes = visit_fits w moved (up_node w goes.0) goes.1
       off_fits (Ended ending) goes = one_more net u (End packet.id ending) past few_packets all
 
-      -- in its mode
+      -- all facts fit after a hop, in the mode of the packet
       mode_fits : (m : Mode) → AllFacts net u (by_mode m (hops_on_tables net u past packet up) (hops_off_tables rules net u past packet up))
       mode_fits Stable = stable_fits (kept_path u packet.epoch packet.prefix past)
       mode_fits Transient =
@@ -276,14 +276,14 @@ module _ (rules : Rules) (net : Net) (u : ℕ) (valid : IsValid net) (own : has 
           (hop_goes net valid (sight rules net u past packet.prefix up) own packet is
           (newest_path_carried net u past all packet.prefix valid) (newest_backups_carried net u past all rules packet.prefix valid own) net.scheme)
 
-      -- a packet goes on
+      -- all facts fit after a packet goes on
       forwards_fits : AllFacts net u (forwards rules net u past packet up)
       unfolding forwards
       forwards_fits = mode_fits packet.mode
 
     -- ---- all inputs but ballots and control messages
 
-    -- what u does with it
+    -- the answer of u to such an input is fine
     pub answer_fine : (i : Input) → IsPlain i → fits net u i ≡ true → Fine rules net u (answer rules net carried u past i)
     unfolding answer fits
     answer_fine (input.Originate p) plain is =

@@ -28,7 +28,7 @@ use Rattle.node_core.specs.Names.{is_number}
 
 -- ---- facts that fit
 
--- what a message says, whoever sends it
+-- the ballot and the value of the message fit, whoever sends it
 abbrev pub said_fits : Net → Ballots Value → Bool
 said_fits net (Prepare b) = ballot_fits net b
 said_fits net (Promise b named) = ballot_fits net b && named_fits net named
@@ -36,7 +36,7 @@ said_fits net (Accept b v) = ballot_fits net b && value_fits net v
 said_fits net (Accepted b) = ballot_fits net b
 said_fits net (Decision v) = value_fits net v
 
--- a fact of one agreement
+-- the ballot and the value of a fact of one agreement fit
 abbrev pub ballot_fact_fits : Net → Fact Value → Bool
 ballot_fact_fits net (Start w b) = ballot_fits net b
 ballot_fact_fits net (Mail w to m) = said_fits net m
@@ -44,12 +44,12 @@ ballot_fact_fits net (Heard w from m) = said_fits net m
 ballot_fact_fits net (Crash w) = true
 ballot_fact_fits net Other = true
 
--- what is mailed about ballots
+-- the message is no message of an agreement, or its ballot and value fit
 abbrev pub mailed_fits : Net → Message → Bool
 mailed_fits net (Reports r) = true
 mailed_fits net (Agrees e m) = said_fits net m
 
--- a fact of all agreements
+-- a fact of all agreements fits
 abbrev pub control_fits : Net → consolidator.Fact → Bool
 control_fits net (consolidator.Start w e b) = ballot_fits net b
 control_fits net (consolidator.Mail w to m) = mailed_fits net m
@@ -72,11 +72,11 @@ module _ (net : Net) where
   said_of from (Accepted b) fit = and_right (has net.consolidators from) (ballot_fits net b) fit
   said_of from (Decision v) fit = fit
 
-  -- a message of an agreement
+  -- a message of an agreement that fits has a ballot and a value that its sender may say
   pub ballots_of : (from e : ℕ) (m : Ballots Value) → message_fits net from (Agrees e m) ≡ true → ballots_fit net from m ≡ true
   ballots_of from e m fit = and_right (epoch_fits e) (ballots_fit net from m) (and_right (has net.nodes from) (epoch_fits e && ballots_fit net from m) fit)
 
-  -- a fact, as the agreement of an epoch reads it
+  -- a fact that fits also fits as the agreement of an epoch reads it
   fact_of : (e : ℕ) (f : consolidator.Fact) → control_fits net f ≡ true → ballot_fact_fits net (fact_in e f) ≡ true
   fact_of e (consolidator.Start w d b) fit = elim (d == e) as (λ t. ballot_fact_fits net (if t then Start w b else Other) ≡ true) [ true ↦ fit | false ↦ refl ]
   fact_of e (consolidator.Mail w to (Reports r)) fit = refl
@@ -88,7 +88,7 @@ module _ (net : Net) where
   fact_of e (consolidator.Crash w) fit = refl
   fact_of e consolidator.Other fit = refl
 
-  -- the facts of one agreement
+  -- if all facts fit, those of one agreement do
   pub agreement_fits : (e : ℕ) (past : consolidator.Chronicle) → list_all (control_fits net) past ≡ true → list_all (ballot_fact_fits net) (agreement e past) ≡ true
   agreement_fits e [] all = refl
   agreement_fits e (f ∷ past) all =
@@ -98,19 +98,19 @@ module _ (net : Net) where
 
   -- ---- readings of one agreement
 
-  -- a ballot that fits, where there is one
+  -- the ballot fits, where there is one
   abbrev pub HasBallot : Option Ballot → Type 0
   HasBallot o = IfSome o (λ b. ballot_fits net b ≡ true)
 
-  -- a value that fits, where there is one
+  -- the value fits, where there is one
   abbrev pub HasValue : Option Value → Type 0
   HasValue o = IfSome o (λ v. value_fits net v ≡ true)
 
-  -- the rest of some facts
+  -- if all facts fit, those behind the newest do
   rest_of : (f : Fact Value) (past : Chronicle Value) → list_all (ballot_fact_fits net) (f ∷ past) ≡ true → list_all (ballot_fact_fits net) past ≡ true
   rest_of f past all = and_right (ballot_fact_fits net f) (list_all (ballot_fact_fits net) past) all
 
-  -- the first of them
+  -- if all facts fit, the newest does
   first_one : (f : Fact Value) (past : Chronicle Value) → list_all (ballot_fact_fits net) (f ∷ past) ≡ true → ballot_fact_fits net f ≡ true
   first_one f past all = and_left (ballot_fact_fits net f) (list_all (ballot_fact_fits net) past) all
 
@@ -125,7 +125,7 @@ module _ (net : Net) where
   promised_more (Accepted b) o fit before = before
   promised_more (Decision v) o fit before = before
 
-  -- the promised ballot
+  -- the ballot that u promised fits
   pub promised_fits : (past : Chronicle Value) (u : ℕ) → list_all (ballot_fact_fits net) past ≡ true → HasBallot (promised past u)
   promised_fits [] u all = tt
   promised_fits (Heard w from m ∷ past) u all =
@@ -136,7 +136,7 @@ module _ (net : Net) where
       ]
   promised_fits (f ∷ past) u all = promised_fits past u (rest_of f past all)
 
-  -- the own ballot
+  -- the ballot that u started last fits
   pub started_fits : (past : Chronicle Value) (u : ℕ) → list_all (ballot_fact_fits net) past ≡ true → HasBallot (started past u)
   started_fits [] u all = tt
   started_fits (Start w b ∷ past) u all =
@@ -153,7 +153,7 @@ module _ (net : Net) where
   accepted_more (Accepted b) o fit before = before
   accepted_more (Decision v) o fit before = before
 
-  -- the accepted pair
+  -- the pair that u accepted fits
   pub accepted_fits : (past : Chronicle Value) (u : ℕ) → list_all (ballot_fact_fits net) past ≡ true → named_fits net (accepted past u) ≡ true
   accepted_fits [] u all = refl
   accepted_fits (Heard w from m ∷ past) u all =
@@ -180,7 +180,7 @@ module _ (net : Net) where
   promises_more from (Accepted c) b before fit all = all
   promises_more from (Decision v) b before fit all = all
 
-  -- the promises that were counted
+  -- the promises that u counted name what fits
   pub promises_fit : (past : Chronicle Value) (u : ℕ) (b : Ballot) → list_all (ballot_fact_fits net) past ≡ true → list_all counted_fits (promises past u b) ≡ true
   promises_fit [] u b all = refl
   promises_fit (Heard w from m ∷ past) u b all =
@@ -206,7 +206,7 @@ module _ (net : Net) where
   value_named None fit = tt
   value_named (Some p) fit = and_right (ballot_fits net p.0) (value_fits net p.1) fit
 
-  -- the value that they name
+  -- the value that fitting promises name fits
   pub named_value_fits : (counted : List (ℕ × Option (Ballot × Value))) → list_all counted_fits counted ≡ true → HasValue (named_value counted)
   named_value_fits counted all = value_named (highest counted) (highest_fits counted all)
 
@@ -218,7 +218,7 @@ module _ (net : Net) where
   proposed_more (Accepted c) b o fit before = before
   proposed_more (Decision v) b o fit before = before
 
-  -- the value that was proposed
+  -- the value that u proposed fits
   pub proposed_fits : (past : Chronicle Value) (u : ℕ) (b : Ballot) → list_all (ballot_fact_fits net) past ≡ true → HasValue (proposed past u b)
   proposed_fits [] u b all = tt
   proposed_fits (Mail w to m ∷ past) u b all =
@@ -240,7 +240,7 @@ module _ (net : Net) where
   decision_more (Accept c v) o fit before = before
   decision_more (Accepted c) o fit before = before
 
-  -- the decision that is known
+  -- the decision that u knows fits
   pub decision_fits : (past : Chronicle Value) (u : ℕ) → list_all (ballot_fact_fits net) past ≡ true → HasValue (decision past u)
   decision_fits [] u all = tt
   decision_fits (Heard w from m ∷ past) u all =
@@ -253,7 +253,7 @@ module _ (net : Net) where
 
   -- ---- the ballot that comes next
 
-  -- a round that is not the last one
+  -- a round that is not the last one is below it
   round_below : (o : Option Ballot) → HasBallot o → is_last o ≡ None → round_of o < 4294967295
   round_below None fit not_last = omega arith
   round_below (Some b) fit not_last =
@@ -264,7 +264,7 @@ module _ (net : Net) where
         | false ↦ λ e q. grind (arith, nat_tests)
       ]) refl not_last
 
-  -- neither of the two is there
+  -- if the first of two reasons is none, both are none
   neither : (o p : Option Reason) → option_or o p ≡ None → (o ≡ None) × (p ≡ None)
   neither None p e = (refl, e)
   neither (Some x) p e = absurd (cc e)
@@ -272,7 +272,7 @@ module _ (net : Net) where
   next_number : (m n : ℕ) → m < 4294967295 → n < 4294967295 → is_number (1 + max m n) ≡ true
   next_number m n low below = grind (arith, nat_tests)
 
-  -- the ballot that u starts next, where no round is the last
+  -- the ballot that u starts next fits, if u has a round left
   pub next_fits : (past : Chronicle Value) (u : ℕ) → list_all (ballot_fact_fits net) past ≡ true → has net.nodes u ≡ true → no_round (promised past u) (started past u) ≡ None
       → ballot_fits net (next_ballot past u) ≡ true
   next_fits past u all here free =

@@ -27,19 +27,19 @@ use Rattle.admission_laws.proofs.Each.{none_first, none_last}
 pub number_is : (n : ℕ) → 1 ≤ n → n < 2 ^ 32 → is_number n ≡ true
 number_is n one few = grind (arith, nat_tests)
 
--- the test of two numbers of which the first is below the second
+-- if m is below n, the test for below passes
 pub below_is : (m n : ℕ) → m < n → nat_lt m n ≡ true
 below_is m n low = grind (arith, nat_tests)
 
--- and what the test says
+-- if the test for below passes, m is below n
 pub below_from : (m n : ℕ) → nat_lt m n ≡ true → m < n
 below_from m n is = grind (arith, nat_tests)
 
--- the same of two numbers of which the first is not above the second
+-- if m is not above n, the test for it passes
 pub most_is : (m n : ℕ) → m ≤ n → nat_le m n ≡ true
 most_is m n low = grind (arith, nat_tests)
 
--- and what that test says
+-- if the test for not above passes, m is not above n
 pub most_from : (m n : ℕ) → nat_le m n ≡ true → m ≤ n
 most_from m n is = grind (arith, nat_tests)
 
@@ -58,29 +58,29 @@ pub record Reportable (rules : Rules) (net : Net) (u : ℕ) (h : List Entry) : T
 pub not_long : (ts : List Trigger) → is_long ts ≡ false → nat_le (length ts) MOST_TRIGGERS ≡ true
 not_long ts short = grind (arith, nat_tests)
 
--- a part of a list is no longer
+-- what a test leaves of a list is no longer than the list
 pub kept_few : {A : Type 0} (test : A → Bool) (xs : List A) → length (filter test xs) ≤ length xs
 kept_few test [] = omega arith
 kept_few test (x ∷ xs) =
     let rest = kept_few test xs in
     elim (test x) as (λ t. length (cond t (x ∷ filter test xs) (filter test xs)) ≤ suc (length xs)) [ true ↦ omega arith | false ↦ omega arith ]
 
--- what stands before an entry lists no more
+-- the entries before an entry send no more items than all do
 pub fewer_before : (rules : Rules) (net : Net) (u : ℕ) (k : Entry) (h : List Entry) → length (sent_of rules net u h) ≤ length (sent_of rules net u (k ∷ h))
 unfolding sent_of
 fewer_before rules net u k h = omega (arith, length-append (sent_of rules net u h) (sent_by rules net u h k))
 
--- nor a longer list
+-- if no item of a log is too long, no item of the entries before the newest is
 shorter_before : (rules : Rules) (net : Net) (u : ℕ) (k : Entry) (h : List Entry) → list_any is_long_item (sent_of rules net u (k ∷ h)) ≡ false → list_any is_long_item (sent_of rules net u h) ≡ false
 unfolding sent_of
 shorter_before rules net u k h short = none_first is_long_item (sent_of rules net u h) (sent_by rules net u h k) short
 
--- what an entry lists is short
+-- if no item of a log is too long, none that its newest entry lists is
 pub short_items : (rules : Rules) (net : Net) (u : ℕ) (k : Entry) (h : List Entry) → list_any is_long_item (sent_of rules net u (k ∷ h)) ≡ false → list_any is_long_item (sent_by rules net u h k) ≡ false
 unfolding sent_of
 short_items rules net u k h short = none_last is_long_item (sent_of rules net u h) (sent_by rules net u h k) short
 
--- so that what stands before is within the limits too
+-- if a log is within the limits, the entries before the newest are
 pub within_before : (rules : Rules) (net : Net) (u : ℕ) (k : Entry) (h : List Entry) → Within rules net u (k ∷ h) → Within rules net u h
 within_before rules net u k h in_it = record {
   entries = let few = in_it.entries in omega arith;
@@ -89,7 +89,7 @@ within_before rules net u k h in_it = record {
 }
 
 module _ (rules : Rules) (net : Net) (u : ℕ) (valid : IsValid net) where
-  -- no session has more items than there are
+  -- a session has no more items than the log sent in all
   count_few : (h : List Entry) (w s : ℕ) → Fits h → has (neighbours net u) w ≡ true → sent_count rules net u h w s ≤ length (sent_of rules net u h)
   count_few h w s fits near =
       let count = sent_count rules net u h w s in
@@ -100,11 +100,12 @@ module _ (rules : Rules) (net : Net) (u : ℕ) (valid : IsValid net) where
       let less = kept_few (is_sent_in w s) (sent_of rules net u h) in
       omega arith
 
-  -- nor more updates
+  -- a session has no more updates than the log sent items in all
   pub outbox_few : (h : List Entry) (w s : ℕ) → Fits h → has (neighbours net u) w ≡ true → length (outbox rules net u h w s) ≤ length (sent_of rules net u h)
   outbox_few h w s fits near = let few = count_few h w s fits near in omega arith
 
-  -- what an entry says in the session that is held after it is among them
+  -- the updates that a session had before an entry, and those of the entry, are together no more than the items sent in
+  -- all
   pub said_few : (k : Entry) (h : List Entry) (w s : ℕ) → Fits (k ∷ h) → has (neighbours net u) w ≡ true → held (k.read ∷ reads h) w ≡ Some s
       → length (outbox rules net u h w s) + length (news rules net u h k w) ≤ length (sent_of rules net u (k ∷ h))
   said_few k h w s fits near holds =

@@ -32,7 +32,7 @@ use Rattle.admission_laws.proofs.Sessions.{AllFit, first_fits, rest_fits, cause_
 
 -- ---- a path has few nodes
 
--- one of the nodes
+-- each of a list of nodes is a node of the network
 node_of : (net : Net) (ns : List ℕ) (x : ℕ) → are_nodes net ns ≡ true → has ns x ≡ true → has net.nodes x ≡ true
 node_of net [] x all there = absurd (cc there)
 node_of net (n ∷ ns) x all there =
@@ -50,24 +50,24 @@ simple_carried net path valid fits =
     let few = no_more path net.nodes (and_left (differ path) (are_nodes net path) fits) (λ x there. node_of net path x inside there) in
     and_both (nat_le (length path) MOST_TRAIL) (are_nodes net path) (most_is (length path) MOST_TRAIL (let nodes = valid.few_nodes in omega arith)) inside
 
--- so can one that fits
+-- a path that fits can be carried
 pub path_carried : (net : Net) (u : ℕ) (path : List ℕ) → IsValid net → path_fits net u (Some path) ≡ true → carried_fits net path ≡ true
 path_carried net u path valid fits = simple_carried net path valid (and_right (begins_with u path) (differ path && are_nodes net path) fits)
 
 -- ---- candidates
 
--- what was heard last is such a path, or none
+-- what was heard last is a path of different nodes of the network, or none
 abbrev IsHeard : Net → Option (Option (List ℕ)) → Type 0
 IsHeard net None = Unit {0}
 IsHeard net (Some path) = IfSome path (λ l. simple_fits net l ≡ true)
 
--- a path that fits is such a one
+-- a path that fits has different nodes, all of the network
 path_simple : (net : Net) (v : ℕ) (path : Option (List ℕ)) → path_fits net v path ≡ true → IfSome path (λ l. simple_fits net l ≡ true)
 path_simple net v None fits = tt
 path_simple net v (Some path) fits = and_right (begins_with v path) (differ path && are_nodes net path) fits
 
 module _ (net : Net) (u : ℕ) where
-  -- what a cause leaves
+  -- after one more cause that fits, what was heard last is such a path, or none
   heard_then : (cause : Cause) (v s : ℕ) (before : Option (Option (List ℕ))) → cause_fits net u cause ≡ true → IsHeard net before → IsHeard net (heard_by cause v s before)
   heard_then Originate v s before fits is = is
   heard_then Withdraw v s before fits is = is
@@ -80,7 +80,7 @@ module _ (net : Net) (u : ℕ) where
       let whole = and_right (is_number t) (path_fits net w path) (and_right (has (neighbours net u) w) (is_number t && path_fits net w path) fits) in
       elim (w == v && t == s) as (λ c. IsHeard net (cond c (Some path) before)) [ true ↦ path_simple net w path whole | false ↦ is ]
 
-  -- what was heard last
+  -- what a fitting log heard last is such a path, or none
   heard_is : (h : List Entry) (p v s : ℕ) → AllFit net u h → IsHeard net (heard (reads h) p v s)
   heard_is [] p v s all = tt
   heard_is (k ∷ h) p v s all =
@@ -90,18 +90,18 @@ module _ (net : Net) (u : ℕ) where
         | false ↦ before
       ]
 
-  -- in the session that is held
+  -- what was learnt in the session that is held is such a path
   learnt_in : (session : Option ℕ) (paths : ℕ → Option (Option (List ℕ))) → ((s : ℕ) → IsHeard net (paths s))
       → IfSome (option_and_then (λ s. option_and_then (λ path. path) (paths s)) session) (λ l. simple_fits net l ≡ true)
   learnt_in None paths all = tt
   learnt_in (Some s) paths all = inner (paths s) (all s)
     where
-      -- of what was heard in it
+      -- what was heard in a session is such a path, where a path was heard
       inner : (o : Option (Option (List ℕ))) → IsHeard net o → IfSome (option_and_then (λ path. path) o) (λ l. simple_fits net l ≡ true)
       inner None is = tt
       inner (Some path) is = is
 
-  -- u in front of a path that it is not on
+  -- u in front of such a path, which u is not on, is such a path
   led : has net.nodes u ≡ true → (o : Option (List ℕ)) → IfSome o (λ l. simple_fits net l ≡ true)
       → IfSome (option_map (λ path. u ∷ path) (option_and_then (usable u) o)) (λ l. simple_fits net l ≡ true)
   led own None is = tt
@@ -114,14 +114,14 @@ module _ (net : Net) (u : ℕ) where
             (and_both (has net.nodes u) (are_nodes net path) own (and_right (differ path) (are_nodes net path) is))
       ]) refl
 
-  -- the candidate of a neighbour
+  -- the candidate of a neighbour is such a path
   candidate_is : (h : List Entry) (p v : ℕ) → has net.nodes u ≡ true → AllFit net u h → IfSome (candidate u (reads h) p v) (λ l. simple_fits net l ≡ true)
   unfolding beyond
   candidate_is h p v own all = led own (learnt (reads h) p v) (learnt_in (held (reads h) v) (heard (reads h) p v) (λ s. heard_is h p v s all))
 
 -- ---- backups
 
--- the path of a choice
+-- the path of a choice is such a path, if the candidate is
 choice_is : (net : Net) (v value : ℕ) (o : Option (List ℕ)) (c : Choice) → IfSome o (λ l. simple_fits net l ≡ true)
     → option_map (λ path. record { nbr = v; preference = value; path = path }) o ≡ Some c → simple_fits net c.path ≡ true
 choice_is net v value None c is e = cc
@@ -130,7 +130,7 @@ choice_is net v value (Some path) c is e =
     let same : made ≡ c = cc in
     subst (λ (d : Choice). simple_fits net d.path ≡ true) same is
 
--- each of those that there are
+-- the path of each choice of a list is such a path
 chosen_is : (net : Net) (choose : ℕ → Option Choice) → ((v : ℕ) (c : Choice) → choose v ≡ Some c → simple_fits net c.path ≡ true) → (vs : List ℕ) (c : Choice) → Among c (filter_map choose vs)
     → simple_fits net c.path ≡ true
 chosen_is net choose each [] c there = absurd there
@@ -140,7 +140,7 @@ chosen_is net choose each (v ∷ vs) c there =
       | Some d ↦ λ e a. ⊎_elim (λ (same : d ≡ c). each v c (e ∙ ap (λ (z : Choice). Some z) same)) (λ (later : Among c (filter_map choose vs)). chosen_is net choose each vs c later) a
     ]) refl there
 
--- the complete entries are some of the log
+-- if all entries of a log fit, its complete entries do
 each_complete : (net : Net) (u n : ℕ) (incomplete : Trigger → Bool) (p : ℕ) (h : List Entry) → AllFit net u h → AllFit net u (complete_after n incomplete p h)
 each_complete net u n incomplete p [] all = all
 each_complete net u n incomplete p (k ∷ h) all =
@@ -152,7 +152,7 @@ each_complete net u n incomplete p (k ∷ h) all =
     ]
 
 module _ (rules : Rules) (net : Net) (u : ℕ) (valid : IsValid net) (own : has net.nodes u ≡ true) where
-  -- a candidate by rank
+  -- the path of each candidate by rank is such a path
   ranked_is : (h : List Entry) (p : ℕ) (c : Choice) → AllFit net u h → Among c (by_rank rules net u (reads h) p) → simple_fits net c.path ≡ true
   unfolding choices
   ranked_is h p c all there =

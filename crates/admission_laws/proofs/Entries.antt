@@ -36,14 +36,14 @@ use Rattle.admission_laws.proofs.Replying.{one_more, mails_more}
 use Rattle.admission_laws.proofs.Saying.{mail_fits, consolidators_known}
 use Rattle.admission_laws.proofs.Values.{one_of}
 
--- no more local entries than entries
+-- a log has no more local entries than entries
 locals_few : (h : List Entry) → locals h ≤ length h
 locals_few [] = omega arith
 locals_few (k ∷ h) =
     let before = locals_few h in
     elim (is_local k.read.cause) as (λ b. cond b (suc (locals h)) (locals h) ≤ suc (length h)) [ true ↦ omega arith | false ↦ omega arith ]
 
--- an entry that the node makes by itself
+-- a local entry fits, if its cause fits
 pub local_is : (net : Net) (u : ℕ) (h : List Entry) (scope : Scope) (cause : Cause) → has net.nodes u ≡ true → length h ≤ MOST_ENTRIES → ListsFor scope (next_trigger u h ∷ []) → scope_fits net scope ≡ true → cause_fits net u cause ≡ true
     → entry_fits net u (local u h scope cause) ≡ true
 local_is net u h scope cause own few concerning scoped fits =
@@ -57,7 +57,7 @@ local_is net u h scope cause own few concerning scoped fits =
     own_list Nothing lists fit = absurd (cc lists)
 
 module _ (net : Net) (u : ℕ) where
-  -- items that fit are sent
+  -- all facts fit after items that fit are sent
   sends_fit : (carried : Carried) (gs : List Going) (now : Chronicle) → list_all (going_fits net u) gs ≡ true → AllFacts net u now → AllFacts net u (happen now (sends carried u gs))
   sends_fit carried [] now fits all = all
   sends_fit carried (g ∷ gs) now fits all =
@@ -66,7 +66,7 @@ module _ (net : Net) (u : ℕ) where
       (one_more net u f now (and_both (u == u) (going_fits net u g) (same_refl u) (and_left (going_fits net u g) (list_all (going_fits net u) gs) fits)) all)
 
 module _ (rules : Rules) (net : Net) (u : ℕ) (valid : IsValid net) (own : has net.nodes u ≡ true) (carried : Carried) where
-  -- an entry that fits is made, and goes out
+  -- all facts fit after an entry that fits, with what goes out
   pub write_fits : (k : Entry) (past : Chronicle) → AllFacts net u past → entry_fits net u k ≡ true → Fits (k ∷ log_of u past)
       → Within rules net u (k ∷ log_of u past) → AllFacts net u (write rules net carried u k past)
   unfolding write
@@ -76,7 +76,7 @@ module _ (rules : Rules) (net : Net) (u : ℕ) (valid : IsValid net) (own : has 
       sends_fit net u carried (going_by rules net u h k) (Log u k ∷ past) (entry_goes rules net u valid own k h log fitting few)
       (one_more net u (Log u k) past (and_both (u == u) (entry_fits net u k) (same_refl u) fits) all)
 
-  -- a session is opened
+  -- all facts fit after a session is opened
   pub open_fits : (v s : ℕ) (past : Chronicle) → AllFacts net u past → has (neighbours net u) v ≡ true → is_number s ≡ true
       → length (log_of u past) ≤ MOST_ENTRIES → AllFacts net u (open_session carried u v s past)
   unfolding open_session
@@ -90,7 +90,7 @@ module _ (rules : Rules) (net : Net) (u : ℕ) (valid : IsValid net) (own : has 
       sends_fit net u carried (g ∷ []) (Log u k ∷ past) (and_both (going_fits net u g) true greeting refl)
       (one_more net u (Log u k) past (and_both (u == u) (entry_fits net u k) (same_refl u) entry) all)
 
-  -- an epoch rises, and the cut is reported
+  -- all facts fit after an epoch rises and the cut is reported
   pub raise_fits : (e : ℕ) (past : Chronicle) → AllFacts net u past → epoch_fits e ≡ true → Fits (log_of u past)
       → Within rules net u (log_of u past) → Reportable rules net u (log_of u past) → AllFacts net u (raise rules net carried u e past)
   unfolding raise take_cut

@@ -13,7 +13,7 @@ use Rattle.node_core.specs.Names.{is_number}
 use Rattle.node_core.specs.PacketFits.{packet_fits}
 use Rattle.admission_laws.specs.Handing.{table_fits, is_short}
 
--- the neighbour, the session and the path of a cause
+-- the neighbour, the session and the path of the cause fit
 abbrev pub cause_fits : Net → ℕ → Cause → Bool
 cause_fits net u Originate = true
 cause_fits net u Withdraw = true
@@ -24,11 +24,11 @@ cause_fits net u (Ready v s) = has (neighbours net u) v && is_number s
 cause_fits net u (Prefer v value) = has (neighbours net u) v
 cause_fits net u (Flush v) = has (neighbours net u) v
 
--- an entry of u
+-- the entry is one that u may have
 abbrev pub entry_fits : Net → ℕ → Entry → Bool
 entry_fits net u k = row_lists_fit net k.read.scope k.triggers && (scope_fits net k.read.scope && cause_fits net u k.read.cause)
 
--- a fact of u's own run
+-- the fact is one that the run of u alone may have
 abbrev pub fact_fits : Net → ℕ → Fact → Bool
 fact_fits net u (Log w k) = w == u && entry_fits net u k
 fact_fits net u (Sent from to s item queued) = from == u && (has (neighbours net u) to && (is_number s && item_fits net u item))
@@ -45,6 +45,6 @@ fact_fits net u (Publish w e value paths) = w == u && (epoch_fits e && (value_fi
 fact_fits net u (Visit w packet) = has net.nodes w && packet_fits net packet
 fact_fits net u (End id ending) = nat_lt id (2 ^ 32)
 
--- all facts of the run are such
+-- all facts of the run fit
 abbrev pub AllFacts : Net → ℕ → Chronicle → Type 0
 AllFacts net u past = list_all (fact_fits net u) past ≡ true

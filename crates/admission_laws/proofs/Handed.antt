@@ -48,7 +48,7 @@ reaches : (net : Net) (u : ℕ) (i : Input) → fits net u i ≡ true → MayRea
 reaches net u (input.Arrive v s x) is = (may_come net u (input.Arrive v s x) is).2
 reaches net u other is = tt
 
--- the items and the rows of what is held back
+-- if no list of u is too long, no item and no row of what is held back has a list that is too long
 short_lists : (rules : Rules) (net : Net) (u : ℕ) (now : Chronicle) → has_long_list rules net u now ≡ false
     → (list_any is_long_item (sent_of rules net u (log_of u now)) ≡ false) × (list_any is_long_row (pending_rows rules net u (log_of u now)) ≡ false)
 unfolding has_long_list
@@ -71,7 +71,7 @@ log_within rules net u now none = record {
   short = (short_lists rules net u now (or_right (has_large_value u now) (has_long_list rules net u now) (within rules net u now none).1)).0;
 }
 
--- a report may be made of it, if its lists have few triggers
+-- if no count is above its limit and the lists have few triggers, a report may be made of the log
 log_reportable : (rules : Rules) (net : Net) (u : ℕ) (now : Chronicle) → node_above rules net u now ≡ None → has_more_marks rules net u now ≡ false → Reportable rules net u (log_of u now)
 unfolding has_more_marks
 log_reportable rules net u now none few = record {
@@ -82,7 +82,7 @@ log_reportable rules net u now none few = record {
     few_from : (n : ℕ) → nat_lt MOST_MARKS n ≡ false → n ≤ MOST_MARKS
     few_from n is = grind (arith, nat_tests)
 
--- a log without entries lists nothing
+-- a report may be made of a log without entries
 none_listed : (rules : Rules) (net : Net) (u : ℕ) → Reportable rules net u []
 unfolding marks_of sent_of
 none_listed rules net u = record {
@@ -90,13 +90,13 @@ none_listed rules net u = record {
   marks = let none = ap row_marks (none_at_first rules net u) in omega (arith, none);
 }
 
--- and so is the epoch
+-- if no count is above its limit, the epoch is not
 epoch_within : (rules : Rules) (net : Net) (u : ℕ) (now : Chronicle) → node_above rules net u now ≡ None → epoch u now ≤ MOST_EPOCHS
 epoch_within rules net u now none = let count = (within rules net u now none).0 in grind (arith, nat_tests)
 
 module _ (rules : Rules) (net : Net) (u : ℕ) (valid : IsValid net) (here : has net.nodes u ≡ true) where
   module _ (past : Chronicle) (own : Own rules net past u) (all : AllFacts net u past) (listed : Reportable rules net u (log_of u past)) where
-    -- an input that is no ballot and no control message
+    -- all facts fit after an input that is no ballot and no control message
     plain_facts : (i : Input) (now : Chronicle) → IsPlain i → fits net u i ≡ true → node_above rules net u now ≡ None → gives rules net u past i ≡ Goes now → AllFacts net u now
     plain_facts i now plain is few goes =
         given_facts rules net valid each_link u here past own all i now (reaches net u i is) goes
@@ -112,12 +112,12 @@ module _ (rules : Rules) (net : Net) (u : ℕ) (valid : IsValid net) (here : has
     gives_facts (input.Control from m) now up is few goes = control_given rules net valid each_link u here past own all from m now up is few goes
     gives_facts other now up is few goes = plain_facts other now tt is few goes
 
-    -- whether it goes on or is idle
+    -- all facts fit after an input, whether the step goes on or is idle
     then_facts : (i : Input) (s : Step) → ReportsAscend u past → fits net u i ≡ true → node_limit rules net u s ≡ None → gives rules net u past i ≡ s → AllFacts net u (chronicle_of past s)
     then_facts i (Idle why) up is few goes = all
     then_facts i (Goes now) up is few goes = gives_facts i now up is (before_marks (node_above rules net u now) (has_more_marks rules net u now) few).0 goes
 
-  -- of its log a report may be made
+  -- after a step that goes over no limit, a report may be made of the log
   step_listed : (past : Chronicle) (s : Step) → Reportable rules net u (log_of u past) → node_limit rules net u s ≡ None → Reportable rules net u (log_of u (chronicle_of past s))
   step_listed past (Idle why) listed few = listed
   step_listed past (Goes now) listed few =
@@ -162,7 +162,7 @@ module _ (rules : Rules) (net : Net) (u : ℕ) (valid : IsValid net) (here : has
 -- ---- what is handed out
 
 module _ (net : Net) (u : ℕ) where
-  -- what a fact that fits shows
+  -- what a fact that fits shows is admitted
   shown_fits : (f : Fact) (past : Chronicle) → fact_fits net u f ≡ true → list_all (output_fits net u) (output_by f past) ≡ true
   shown_fits (Log w k) past is = refl
   shown_fits (Sent from to s item queued) past is =
@@ -182,7 +182,7 @@ module _ (net : Net) (u : ℕ) where
   shown_fits (Visit w packet) past is = and_both (has net.nodes w && packet_fits net packet) true is refl
   shown_fits (End id ending) past is = and_both (nat_lt id (2 ^ 32)) true is refl
 
-  -- so does what all facts show
+  -- if all facts fit, all that they show is admitted
   outputs_fit : (past : Chronicle) → AllFacts net u past → list_all (output_fits net u) (outputs past) ≡ true
   outputs_fit [] all = refl
   outputs_fit (f ∷ past) all =
@@ -194,7 +194,7 @@ pub all_fit : (rules : Rules) (net : Net) (u : ℕ) (inputs : List Input) → Is
 all_fit rules net u inputs valid here admitted =
     outputs_fit net u (alone rules net u inputs) (fine_on rules net u valid here [] inputs (fine_none rules net u valid here) admitted).facts
 
--- so is what it hands out after a restart
+-- all that a node hands out after a restart is admitted by its addressees
 pub all_fit_again : (rules : Rules) (net : Net) (u : ℕ) (kept inputs : List Input) → IsValid net → has net.nodes u ≡ true → AllAdmitted rules net u [] kept
     → AllAdmitted rules net u (restarted rules net u kept) inputs → list_all (output_fits net u) (outputs (going_on rules net u (restarted rules net u kept) inputs)) ≡ true
 all_fit_again rules net u kept inputs valid here before admitted =

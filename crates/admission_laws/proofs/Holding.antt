@@ -20,7 +20,7 @@ use Rattle.admission_laws.proofs.Ballots.{control_fits}
 -- ---- they fit
 
 module _ (net : Net) where
-  -- a report that is admitted
+  -- a report in a message that fits is a report that fits
   report_of : (from : ℕ) (r : Report) → message_fits net from (Reports r) ≡ true → report_fits net r ≡ true
   report_of from r fit =
       let content : (epoch_fits r.epoch && body_fits net from (Reports r)) ≡ true = and_right (has net.nodes from) (epoch_fits r.epoch && body_fits net from (Reports r)) fit in
@@ -36,7 +36,7 @@ module _ (net : Net) where
       (and_both (list_all (row_fits net) r.rows) (list_all (waiting_fits net) r.pending) (and_left (list_all (row_fits net) r.rows) (rows_are_few r.rows) rows)
       (and_left (list_all (waiting_fits net) r.pending) (waiting_ascends r.pending) waiting))
 
-  -- one more
+  -- the reports fit with one more report that fits
   put_fits : (r : Report) (rs : List Report) → report_fits net r ≡ true → list_all (report_fits net) rs ≡ true → list_all (report_fits net) (put_report r rs) ≡ true
   put_fits r [] fit all = and_both (report_fits net r) true fit refl
   put_fits r (s ∷ ss) fit all =
@@ -82,13 +82,13 @@ HeldAscend u past = (e : ℕ) → in_order nat_lt (nodes_of (reports_held u e pa
 other_way : (a b : ℕ) → nat_lt a b ≡ false → (b == a) ≡ false → nat_lt b a ≡ true
 other_way a b high apart = grind (arith, nat_tests)
 
--- what leads them leads them with one more
+-- a number below all nodes of the reports, and below that of one more, is below all with it
 put_led : (a : ℕ) (r : Report) (rs : List Report) → nat_lt a r.node ≡ true → leads nat_lt a (nodes_of rs) ≡ true → leads nat_lt a (nodes_of (put_report r rs)) ≡ true
 put_led a r [] low before = low
 put_led a r (s ∷ ss) low before =
     elim (nat_lt r.node s.node) as (λ t. leads nat_lt a (nodes_of (if t then r ∷ s ∷ ss else s ∷ put_report r ss)) ≡ true) [ true ↦ low | false ↦ before ]
 
--- one more of a new node
+-- the nodes of the reports ascend with one more report of a new node
 put_in_order : (r : Report) (rs : List Report) → has (nodes_of rs) r.node ≡ false → in_order nat_lt (nodes_of rs) ≡ true → in_order nat_lt (nodes_of (put_report r rs)) ≡ true
 put_in_order r [] new up = refl
 put_in_order r (s ∷ ss) new up =
@@ -114,12 +114,12 @@ unfolding refusal_of
 new_report net u from r past free =
     new_node (has net.consolidators u || false) (is_some (known u r.epoch past)) (has (nodes_of (reports_held u r.epoch past)) r.node) free
 
--- a choice between a list and itself
+-- the nodes ascend, whichever of two equal lists is chosen
 either_way : (t : Bool) (rs : List Report) → in_order nat_lt (nodes_of rs) ≡ true → in_order nat_lt (nodes_of (if t then rs else rs)) ≡ true
 either_way true rs up = up
 either_way false rs up = up
 
--- they ascend where u heard a message that it does not refuse
+-- the nodes still ascend after u hears a message that it does not refuse
 pub heard_ascend : (net : Net) (u from : ℕ) (m : Message) (past : Chronicle) → HeldAscend u past → refusal_of net past u from m ≡ None → HeldAscend u (Heard u from m ∷ past)
 heard_ascend net u from (Agrees d m) past up free = λ e. either_way (u == u) (reports_held u e past) (up e)
 heard_ascend net u from (Reports r) past up free = λ e.
@@ -135,12 +135,12 @@ heard_ascend net u from (Reports r) past up free = λ e.
       | false ↦ up e
     ]
 
--- and where it sent others
+-- the nodes still ascend after control messages are sent
 pub posted_ascend : (u w : ℕ) (ms : List (ℕ × Message)) (past : Chronicle) → HeldAscend u past → HeldAscend u (posted w ms past)
 posted_ascend u w [] past up = up
 posted_ascend u w (m ∷ ms) past up = posted_ascend u w ms (Mail w m.0 m.1 ∷ past) up
 
--- and where u crashed: it holds none
+-- the nodes ascend after u crashes, since it then holds no report
 pub crash_ascends : (u : ℕ) (past : Chronicle) → HeldAscend u (Crash u ∷ past)
 crash_ascends u past = λ e.
     (elim (u == u) as (λ t. u == u ≡ t → in_order nat_lt (nodes_of (if t then [] else reports_held u e past)) ≡ true) [

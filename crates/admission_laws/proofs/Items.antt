@@ -34,7 +34,7 @@ use Rattle.admission_laws.proofs.Sessions.{AllFit, first_fits, rest_fits, cause_
 
 -- ---- paths
 
--- all of them are nodes of the network
+-- each of a list of nodes is in the network
 nodes_inside : (net : Net) (ns : List ℕ) → are_nodes net ns ≡ true → AreIn net ns
 nodes_inside net [] e = tt
 nodes_inside net (n ∷ ns) e = (and_left (has net.nodes n) (are_nodes net ns) e, nodes_inside net ns (and_right (has net.nodes n) (are_nodes net ns) e))
@@ -51,7 +51,7 @@ path_simple net v (Some path) fits =
     let rest = and_right (begins_with v path) (differ path && are_nodes net path) fits in
     record { some = begun v path (and_left (begins_with v path) (differ path && are_nodes net path) fits); different = and_left (differ path) (are_nodes net path) rest }
 
--- and stays in the network
+-- a path that fits stays in the network
 path_inside : (net : Net) (v : ℕ) (path : Option (List ℕ)) → path_fits net v path ≡ true → IfSome path (AreIn net)
 path_inside net v None fits = tt
 path_inside net v (Some path) fits =
@@ -63,7 +63,7 @@ module _ (net : Net) (u : ℕ) where
   received_fits v s path fits =
       and_right (is_number s) (path_fits net v path) (and_right (has (neighbours net u) v) (is_number s && path_fits net v path) fits)
 
-  -- so it repeats no node
+  -- a fitting cause brings no path that repeats a node
   cause_simple : (cause : Cause) → cause_fits net u cause ≡ true → Brings IsPath cause
   cause_simple (Recv v s seq path) fits = path_simple net v path (received_fits v s path fits)
   cause_simple Originate fits = tt
@@ -74,7 +74,7 @@ module _ (net : Net) (u : ℕ) where
   cause_simple (Prefer v x) fits = tt
   cause_simple (Flush v) fits = tt
 
-  -- and stays in the network
+  -- a fitting cause brings no path that leaves the network
   cause_inside : (cause : Cause) → cause_fits net u cause ≡ true → Brings (AreIn net) cause
   cause_inside (Recv v s seq path) fits = path_inside net v path (received_fits v s path fits)
   cause_inside Originate fits = tt
@@ -90,26 +90,26 @@ module _ (net : Net) (u : ℕ) where
   log_simple [] all = tt
   log_simple (k ∷ h) all = (cause_simple k.read.cause (cause_of net u k (first_fits net u k h all)), log_simple h (rest_fits net u k h all))
 
-  -- and all stay in the network
+  -- all paths that a log received stay in the network
   log_inside : (h : List Entry) → AllFit net u h → BringsPathsIn net (reads h)
   log_inside [] all = tt
   log_inside (k ∷ h) all = (cause_inside k.read.cause (cause_of net u k (first_fits net u k h all)), log_inside h (rest_fits net u k h all))
 
 -- ---- updates
 
--- an update that its number does not speak of
+-- the update fits, but for its number
 abbrev pub update_fits : Net → ℕ → Update → Bool
 update_fits net v x = nat_lt x.prefix (length net.prefixes) && (list_fits net x.triggers && path_fits net v x.path)
 
--- the same but for the length of its list
+-- the update fits, but for its number and for the length of its list
 abbrev update_known : Net → ℕ → Update → Bool
 update_known net v x = nat_lt x.prefix (length net.prefixes) && (triggers_fit net x.triggers && path_fits net v x.path)
 
--- an update that lists more than it may
+-- the update lists more triggers than it may
 abbrev is_long_update : Update → Bool
 is_long_update x = is_long x.triggers
 
--- updates whose lists are short
+-- updates that fit but for the length of their lists fit, if no list is too long
 all_short : (net : Net) (v : ℕ) (xs : List Update) → list_all (update_known net v) xs ≡ true → list_any is_long_update xs ≡ false → list_all (update_fits net v) xs ≡ true
 all_short net v [] all short = refl
 all_short net v (x ∷ xs) all short =
@@ -128,7 +128,7 @@ short_from : (w s n : ℕ) (xs : List Update) → list_any is_long_item (sent_fr
 short_from w s n [] = refl
 short_from w s n (x ∷ xs) = ap (λ b. is_long x.triggers || b) (short_from w s (suc n) xs)
 
--- updates that fit, numbered on
+-- updates that fit also fit as items, once they are numbered on
 numbered_fit : (net : Net) (v n : ℕ) (xs : List Update) → 1 ≤ n → n + length xs ≤ 2 ^ 32 → list_all (update_fits net v) xs ≡ true → list_all (item_fits net v) (numbered n xs) ≡ true
 numbered_fit net v n [] one few all = refl
 numbered_fit net v n (x ∷ xs) one few all =
@@ -138,11 +138,11 @@ numbered_fit net v n (x ∷ xs) one few all =
 
 -- ---- what goes out
 
--- an item of u for a neighbour
+-- an item of u for a neighbour fits
 abbrev pub going_fits : Net → ℕ → Going → Bool
 going_fits net u g = has (neighbours net u) g.to && (is_number g.session && item_fits net u g.item)
 
--- items for one neighbour
+-- fitting items go out to one neighbour as items that fit
 to_fits : (net : Net) (u w s : ℕ) (items : List Item) → has (neighbours net u) w ≡ true → is_number s ≡ true → list_all (item_fits net u) items ≡ true
     → list_all (going_fits net u) (going_to w s items) ≡ true
 to_fits net u w s items near number all =
@@ -150,7 +150,7 @@ to_fits net u w s items near number all =
     (λ x there. and_both (has (neighbours net u) w) (is_number s && item_fits net u x) near
     (and_both (is_number s) (item_fits net u x) number (one_of (item_fits net u) items x all there)))
 
--- items for all neighbours, in the sessions that are held
+-- fitting items go out to all neighbours, in the sessions that are held, as items that fit
 pub spread_fits : (net : Net) (u : ℕ) (session : ℕ → Option ℕ) (items : ℕ → ℕ → List Item)
     → ((w s : ℕ) → has (neighbours net u) w ≡ true → session w ≡ Some s → (is_number s ≡ true) × (list_all (item_fits net u) (items w s) ≡ true))
     → list_all (going_fits net u) (spread net u session items) ≡ true
@@ -158,13 +158,13 @@ unfolding spread
 spread_fits net u session items all =
     each_flat (going_fits net u) (λ w. going_in w (items w) (session w)) (neighbours net u) (λ w there. in_it w (session w) refl (among_has (neighbours net u) w there))
   where
-    -- items for one neighbour, in the session that there may be
+    -- fitting items go out to one neighbour as items that fit, whether a session is held with it or not
     in_it : (w : ℕ) (s : Option ℕ) → session w ≡ s → has (neighbours net u) w ≡ true → list_all (going_fits net u) (going_in w (items w) s) ≡ true
     in_it w None is near = refl
     in_it w (Some s) is near = let both = all w s near is in to_fits net u w s (items w s) near both.0 both.1
 
 module _ (rules : Rules) (net : Net) (u : ℕ) (valid : IsValid net) (own : has net.nodes u ≡ true) where
-  -- an update of a prefix, for triggers of the network
+  -- an update of a prefix that lists triggers of the network fits, but for its number and the length of its list
   update_of_prefix : (h : List Entry) (w p : ℕ) (ts : List Trigger) → AllFit net u h → p < length net.prefixes → triggers_fit net ts ≡ true
       → update_known net u (record { prefix = p; triggers = ts; path = offer rules net u (reads h) p w }) ≡ true
   update_of_prefix h w p ts all placed known =
@@ -176,7 +176,7 @@ module _ (rules : Rules) (net : Net) (u : ℕ) (valid : IsValid net) (own : has 
   placed_at : (test : ℕ → Bool) (p : ℕ) → Among p (filter test (range_with_len 0 (length net.prefixes))) → p < length net.prefixes
   placed_at test p there = let low = among_range 0 (length net.prefixes) p (among_filter test (range_with_len 0 (length net.prefixes)) p there) in omega arith
 
-  -- all updates of an entry for w
+  -- all updates of an entry for w fit, but for their numbers and the lengths of their lists
   pub news_known : (k : Entry) (h : List Entry) (w : ℕ) → AllFit net u (k ∷ h) → Fits (k ∷ h) → list_all (update_known net u) (news rules net u h k w) ≡ true
   unfolding news places
   news_known k h w all fits =
@@ -197,7 +197,7 @@ module _ (rules : Rules) (net : Net) (u : ℕ) (valid : IsValid net) (own : has 
             (λ p there. update_of_prefix (k ∷ h) w p k.triggers all (placed_at moves p there) (changed_known rules net u k h w p all fits (passing_filter moves some p there)))
       ]
 
-  -- in the session that is held, none lists more than it may
+  -- in the session that is held, no update of an entry lists more than it may
   news_short : (k : Entry) (h : List Entry) (w s : ℕ) → has (neighbours net u) w ≡ true → held (k.read ∷ reads h) w ≡ Some s → list_any is_long_item (sent_by rules net u h k) ≡ false
       → list_any is_long_update (news rules net u h k w) ≡ false
   unfolding sent_by
@@ -206,13 +206,13 @@ module _ (rules : Rules) (net : Net) (u : ℕ) (valid : IsValid net) (own : has 
       let updates = none_first is_long_item (updates_sent (making rules net u h k) w (held (k.read ∷ reads h) w)) (close_sent (making rules net u h k) w (ready (reads h) w)) here in
       sym (short_from w s (next_number rules net u h w s) (news rules net u h k w)) ∙ subst (λ o. list_any is_long_item (updates_sent (making rules net u h k) w o) ≡ false) holds updates
 
-  -- so they fit
+  -- all updates of an entry for w fit, in the session that is held
   pub news_fit : (k : Entry) (h : List Entry) (w s : ℕ) → AllFit net u (k ∷ h) → Fits (k ∷ h) → Within rules net u (k ∷ h) → has (neighbours net u) w ≡ true → held (k.read ∷ reads h) w ≡ Some s
       → list_all (update_fits net u) (news rules net u h k w) ≡ true
   news_fit k h w s all fits few near holds =
       all_short net u (news rules net u h k w) (news_known k h w all fits) (news_short k h w s near holds (short_items rules net u k h few.short))
 
-  -- all that goes out with an entry
+  -- all items that go out with an entry fit
   pub entry_goes : (k : Entry) (h : List Entry) → AllFit net u (k ∷ h) → Fits (k ∷ h) → Within rules net u (k ∷ h) → list_all (going_fits net u) (going_by rules net u h k) ≡ true
   unfolding going_by
   entry_goes k h all fits few =

@@ -25,14 +25,14 @@ use Rattle.admission_laws.proofs.Sessions.{AllFit, close_lists, first_fits, rest
 -- ---- lists
 
 module _ (net : Net) where
-  -- some triggers, each of which fits
+  -- a list of triggers that is not empty fits, if each of them fits
   pub all_known : (ts : List Trigger) → ts ≢ [] → ((t : Trigger) → Among t ts → trigger_fits net t ≡ true) → triggers_fit net ts ≡ true
   all_known [] some each = absurd (some refl)
   all_known (t ∷ []) some each = each t (inl refl)
   all_known (t ∷ s ∷ ts) some each =
       and_both (trigger_fits net t) (triggers_fit net (s ∷ ts)) (each t (inl refl)) (all_known (s ∷ ts) (λ none. absurd (cc none)) (λ r a. each r (inr a)))
 
-  -- what concerns a prefix lists something
+  -- a list of an entry that concerns a prefix is not empty, and its triggers fit
   pub of_prefix : (p : ℕ) (scope : Scope) (ts : List Trigger) → concerns p scope ≡ true → row_lists_fit net scope ts ≡ true → list_fits net ts ≡ true
   of_prefix p (One q) ts about fit = fit
   of_prefix p All ts about fit = fit
@@ -50,13 +50,13 @@ module _ (rules : Rules) (net : Net) (u : ℕ) where
   some_pending [] some = absurd (cc some)
   some_pending (t ∷ ts) some = λ none. absurd (cc none)
 
-  -- what is held back
+  -- the triggers for which an update is held back fit
   pub pending_known : (h : List Entry) (w p : ℕ) → AllFit net u h → Fits h → is_pending rules net u h w p ≡ true → triggers_fit net (pending rules net u h w p) ≡ true
   pending_known h w p all fits some =
       all_known net (pending rules net u h w p) (some_pending (pending rules net u h w p) some)
       (λ t a. lists_known h t all (any_lists p h t (pending_listed rules net u h w p t fits a)))
 
-  -- what an entry lists that changes an offer
+  -- the triggers of an entry that changes an offer fit
   pub changed_known : (k : Entry) (h : List Entry) (w p : ℕ) → AllFit net u (k ∷ h) → Fits (k ∷ h) → changed rules net u (k.read ∷ reads h) w p ≡ true → triggers_fit net k.triggers ≡ true
   changed_known k h w p all fits moved =
       of_list net k.triggers (of_prefix net p k.read.scope k.triggers (changed_about rules net u k h w p fits moved) (triggers_of net u k (first_fits net u k h all)))
@@ -65,7 +65,7 @@ module _ (rules : Rules) (net : Net) (u : ℕ) where
   some_union net [] us fit = absurd (cc fit)
   some_union net (t ∷ ts) us fit = λ none. absurd (cc (union_none (t ∷ ts) us none).0)
 
-  -- what a close lists
+  -- the triggers that a close lists fit
   pub close_known : (k : Entry) (h : List Entry) (w s : ℕ) → AllFit net u (k ∷ h) → Fits (k ∷ h) → closes k.read.cause w s ≡ true → triggers_fit net (close_list rules net u h k w) ≡ true
   close_known k h w s all fits ends =
       let own = close_lists net h k.read.scope k.read.cause w s k.triggers fits.0 ends (triggers_of net u k (first_fits net u k h all)) in

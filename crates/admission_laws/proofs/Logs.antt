@@ -38,13 +38,13 @@ module _ (net : Net) (u : ℕ) where
   pub first_fact : (f : Fact) (past : Chronicle) → AllFacts net u (f ∷ past) → fact_fits net u f ≡ true
   first_fact f past all = and_left (fact_fits net u f) (list_all (fact_fits net u) past) all
 
-  -- so do those before it
+  -- if all facts fit, those before the newest do
   pub facts_before : (f : Fact) (past : Chronicle) → AllFacts net u (f ∷ past) → AllFacts net u past
   facts_before f past all = and_right (fact_fits net u f) (list_all (fact_fits net u) past) all
 
   -- ---- entries and cuts
 
-  -- the log after a fact
+  -- the entries of u fit, with one more fact that fits
   log_then : (f : Fact) (before : List Entry) → fact_fits net u f ≡ true → AllFit net u before → AllFit net u (log_by u f before)
   log_then (Log w k) before fits all =
       elim (w == u) as (λ t. AllFit net u (cond t (k ∷ before) before)) [
@@ -58,12 +58,12 @@ module _ (net : Net) (u : ℕ) where
   log_fits [] all = refl
   log_fits (f ∷ past) all = log_then f (log_of u past) (first_fact f past all) (log_fits past (facts_before f past all))
 
-  -- the cut after a fact
+  -- the entries of the cut fit, with one more fact that fits
   cut_then : (e : ℕ) (f : Fact) (log : List Entry) (before : Option (List Entry)) → AllFit net u log → IfSome before (AllFit net u) → IfSome (cut_by u e f log before) (AllFit net u)
   cut_then e (Raise w d) log before now is = elim (w == u && d == e) as (λ t. IfSome (cond t (Some log) before) (AllFit net u)) [ true ↦ now | false ↦ is ]
   cut_then e other log before now is = is
 
-  -- so does each entry of a cut
+  -- if all facts fit, each entry of a cut does
   cut_fits : (e : ℕ) (past : Chronicle) → AllFacts net u past → IfSome (cut u e past) (AllFit net u)
   cut_fits e [] all = tt
   cut_fits e (f ∷ past) all =
@@ -72,7 +72,7 @@ module _ (net : Net) (u : ℕ) where
 
   -- ---- epochs
 
-  -- the epoch after a fact
+  -- the epoch is not above the highest, with one more fact that fits
   epoch_then : (f : Fact) (before : ℕ) → fact_fits net u f ≡ true → before ≤ MOST_EPOCHS → epoch_by u f before ≤ MOST_EPOCHS
   epoch_then (Raise w e) before fits low = elim (w == u) as (λ t. cond t e before ≤ MOST_EPOCHS) [ true ↦ epoch_few e (and_right (w == u) (epoch_fits e) fits) | false ↦ low ]
   epoch_then other before fits low = low
@@ -84,7 +84,7 @@ module _ (net : Net) (u : ℕ) where
 
   -- ---- tables
 
-  -- the tables after a fact
+  -- the tables of u fit, with one more fact that fits
   tables_then : (f : Fact) (before : List Publication) → fact_fits net u f ≡ true → list_all (publication_fits net u) before ≡ true
       → list_all (publication_fits net u) (publications_by u f before) ≡ true
   tables_then (Publish w e value paths) before fits all =
@@ -100,18 +100,18 @@ module _ (net : Net) (u : ℕ) where
   tables_fit [] all = refl
   tables_fit (f ∷ past) all = tables_then f (publications u past) (first_fact f past all) (tables_fit past (facts_before f past all))
 
--- the one of the higher epoch passes where both pass
+-- of two elements, the one of the higher epoch passes, if both pass
 newer_passes : {A : Type 0} (of : A → ℕ) (p : A → Bool) (t : A) (o : Option A) → p t ≡ true → IfSome o (λ x. p x ≡ true) → p (tables.newer of t o) ≡ true
 newer_passes of p t None here later = here
 newer_passes of p t (Some x) here later = elim (nat_lt (of t) (of x)) as (λ b. p (cond b x t) ≡ true) [ true ↦ later | false ↦ here ]
 
--- so the newest passes where all do
+-- of a list, the element of the highest epoch passes, if all pass
 newest_passes : {A : Type 0} (of : A → ℕ) (p : A → Bool) (ts : List A) → list_all p ts ≡ true → IfSome (tables.newest of ts) (λ x. p x ≡ true)
 newest_passes of p [] all = tt
 newest_passes of p (t ∷ ts) all =
     newer_passes of p t (tables.newest of ts) (and_left (p t) (list_all p ts) all) (newest_passes of p ts (and_right (p t) (list_all p ts) all))
 
--- what stands at a place passes where all do
+-- the element at a place passes, if all pass
 at_passes : {A : Type 0} (p : A → Bool) (xs : List A) (i : ℕ) → list_all p xs ≡ true → IfSome (slice_get xs i) (λ x. p x ≡ true)
 at_passes p [] i all = tt
 at_passes p (x ∷ xs) zero all = and_left (p x) (list_all p xs) all
@@ -122,20 +122,20 @@ module _ (net : Net) (u : ℕ) (past : Chronicle) (all : AllFacts net u past) wh
   newest_fits : IfSome (newest u past) (λ t. publication_fits net u t ≡ true)
   newest_fits = newest_passes epoch_of (publication_fits net u) (publications u past) (tables_fit net u past all)
 
-  -- so its epoch is not above the highest
+  -- the epoch of the newest table is not above the highest
   pub newest_epoch_low : IfSome (newest_epoch u past) (λ e. e ≤ MOST_EPOCHS)
   newest_epoch_low = of_table (newest u past) newest_fits
     where
-      -- of the table that there may be
+      -- the epoch of a table that fits is not above the highest
       of_table : (o : Option Publication) → IfSome o (λ t. publication_fits net u t ≡ true) → IfSome (option_map epoch_of o) (λ e. e ≤ MOST_EPOCHS)
       of_table None fits = tt
       of_table (Some t) fits = epoch_few t.epoch (and_left (epoch_fits t.epoch) (value_fits net t.value && table_fits net u t.paths) fits)
 
-  -- its path can be carried
+  -- the path of the newest table can be carried
   pub newest_path_carried : (p : ℕ) → IsValid net → IfSome (newest_path u p past) (λ path. carried_fits net path ≡ true)
   newest_path_carried p valid = of_table (newest u past) newest_fits
     where
-      -- what stands at a place of a table
+      -- the path at a place of a table can be carried
       of_place : (o : Option (Option (List ℕ))) → IfSome o (λ path. path_fits net u path ≡ true) → IfSome (option_and_then (λ path. path) o) (λ path. carried_fits net path ≡ true)
       of_place None fits = tt
       of_place (Some None) fits = tt
@@ -149,16 +149,16 @@ module _ (net : Net) (u : ℕ) (past : Chronicle) (all : AllFacts net u past) wh
           of_place (slice_get t.paths p)
           (at_passes (path_fits net u) t.paths p (and_right (length t.paths == length net.prefixes) (list_all (path_fits net u) t.paths) table))
 
-  -- so can its backups
+  -- the backups of the newest table can be carried
   pub newest_backups_carried : (rules : Rules) (p : ℕ) → IsValid net → has net.nodes u ≡ true → list_all (carried_fits net) (newest_backups rules net u p past) ≡ true
   newest_backups_carried rules p valid own = of_table (newest u past)
     where
-      -- over the cut that there may be
+      -- the backups over a cut of entries that fit can be carried
       of_cut : (value : Value) (n : ℕ) (c : Option (List Entry)) → IfSome c (AllFit net u) → list_all (carried_fits net) (backups_over rules net u p value (option_map (trimmed n) c)) ≡ true
       of_cut value n None fits = refl
       of_cut value n (Some c) fits = backups_carried rules net u valid own value (trimmed n c) p fits
 
-      -- of the table that there may be
+      -- the backups of a table that fits can be carried
       of_table : (o : Option Publication) → list_all (carried_fits net) (backups_in rules net u p past o) ≡ true
       of_table None = refl
       of_table (Some t) = of_cut t.value (dropped_below net u t.epoch past) (cut u t.epoch past) (cut_fits net u t.epoch past all)

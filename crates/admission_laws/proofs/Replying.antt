@@ -47,12 +47,12 @@ use Rattle.admission_laws.proofs.Unheard.{IsUnheard, answer_keeps, publish_keeps
 -- ---- the agreements' readings of such facts
 
 module _ (net : Net) (u : ℕ) where
-  -- a message about ballots
+  -- a message that fits also fits as the agreements read it
   mailed_of : (m : Message) → message_fits net u m ≡ true → mailed_fits net m ≡ true
   mailed_of (Reports r) fit = refl
   mailed_of (Agrees e m) fit = said_of net u m (ballots_of net u e m fit)
 
-  -- a fact
+  -- a fact that fits also fits as the agreements read it
   control_of : (f : Fact) → fact_fits net u f ≡ true → control_fits net (control_by f) ≡ true
   control_of (Start w e b) fit =
       and_right (epoch_fits e) (ballot_fits net b) (and_right (w == u) (epoch_fits e && ballot_fits net b) fit)
@@ -63,7 +63,7 @@ module _ (net : Net) (u : ℕ) where
   control_of (Heard w from m) fit = and_right (w == u) (message_fits net from m) fit
   control_of other fit = refl
 
-  -- all of them
+  -- if all facts fit, all fit as the agreements read them
   pub control_all : (past : Chronicle) → AllFacts net u past → list_all (control_fits net) (control past) ≡ true
   control_all [] all = refl
   control_all (f ∷ past) all =
@@ -71,11 +71,11 @@ module _ (net : Net) (u : ℕ) where
       (control_of f (and_left (fact_fits net u f) (list_all (fact_fits net u) past) all))
       (control_all past (and_right (fact_fits net u f) (list_all (fact_fits net u) past) all))
 
-  -- one fact more
+  -- all facts fit with one more fact that fits
   pub one_more : (f : Fact) (past : Chronicle) → fact_fits net u f ≡ true → AllFacts net u past → AllFacts net u (f ∷ past)
   one_more f past fit all = and_both (fact_fits net u f) (list_all (fact_fits net u) past) fit all
 
-  -- messages that u mails
+  -- all facts fit after u mails messages that fit
   pub mails_more : (ms : List (ℕ × Message)) (now : Chronicle) → list_all (mail_fits net u) ms ≡ true → AllFacts net u now → AllFacts net u (happen now (mails u ms))
   mails_more [] now fit all = all
   mails_more (m ∷ ms) now fit all =
@@ -85,7 +85,7 @@ module _ (net : Net) (u : ℕ) where
 
 -- ---- values that are not too large
 
--- where u mailed no value that is too large, none of these is
+-- if u has mailed no value that is too large, none of these messages names one
 small_mails : (u : ℕ) (ms : List (ℕ × Message)) (now : Chronicle) → has_large_value u (happen now (mails u ms)) ≡ false → (list_all mail_small ms ≡ true) × (has_large_value u now ≡ false)
 small_mails u [] now small = (refl, small)
 small_mails u (m ∷ ms) now small =
@@ -96,13 +96,13 @@ small_mails u (m ∷ ms) now small =
 
 -- ---- ballots and control messages
 
--- what goes on had no reason not to
+-- a step that goes on had no reason not to
 goes_on : (o : Option Reason) (now next : Chronicle) → unless o now ≡ Goes next → (o ≡ None) × (now ≡ next)
 goes_on None now next e = (refl, cc e)
 goes_on (Some why) now next e = absurd (cc e)
 
 module _ (rules : Rules) (net : Net) (valid : IsValid net) (carried : Carried) (u : ℕ) (here : has net.nodes u ≡ true) (past : Chronicle) (all : AllFacts net u past) where
-  -- a ballot that starts
+  -- all facts fit after a ballot starts and sends its requests
   proposes_fits : (e : ℕ) → epoch_fits e ≡ true → proposal_refusal net (control past) u e ≡ None → AllFacts net u (proposes net u past e)
   unfolding proposes
   proposes_fits e at free =
@@ -120,7 +120,7 @@ module _ (rules : Rules) (net : Net) (valid : IsValid net) (carried : Carried) (
       let on = goes_on (proposal_refusal net (control past) u e) (proposes net u past e) now goes in
       subst (AllFacts net u) on.1 (proposes_fits e at on.0)
 
-  -- a control message that is heard
+  -- all facts fit after a control message is heard and answered
   hears_fits : (from : ℕ) (m : Message) → HeldAscend u (control past) → message_fits net from m ≡ true → refusal_of net (control past) u from m ≡ None
       → has_large_value u (hears net u past from m) ≡ false → AllFacts net u (hears net u past from m)
   unfolding hears
@@ -143,7 +143,7 @@ module _ (rules : Rules) (net : Net) (valid : IsValid net) (carried : Carried) (
 abbrev pub ReportsAscend : ℕ → Chronicle → Type 0
 ReportsAscend u past = HeldAscend u (control past)
 
--- a control message that is heard keeps that
+-- the nodes of the reports still ascend after a control message is heard and answered
 hears_ascend : (net : Net) (u from : ℕ) (m : Message) (past : Chronicle) → ReportsAscend u past → refusal_of net (control past) u from m ≡ None → ReportsAscend u (hears net u past from m)
 unfolding hears
 hears_ascend net u from m past up free =
@@ -152,13 +152,13 @@ hears_ascend net u from m past up free =
     (posted_ascend u u out (consolidator.Heard u from m ∷ control past) (heard_ascend net u from m (control past) up free))
 
 module _ (rules : Rules) (net : Net) (carried : Carried) (u : ℕ) where
-  -- so does any fact but a control message that is heard
+  -- the nodes of the reports still ascend after a fact that is no control message that is heard
   ascend_more : (f : Fact) (now : Chronicle) → IsUnheard f → ReportsAscend u now → ReportsAscend u (f ∷ now)
   ascend_more (Heard node from m) now un up = absurd un
   ascend_more (Crash node) now un up = absurd un
   ascend_more other now un up = up
 
-  -- and the table that is due
+  -- the nodes of the reports still ascend with the table that is due
   ascend_concluded : (past : Chronicle) (s : Step) → ReportsAscend u past → ReportsAscend u (chronicle_of past s) → ReportsAscend u (chronicle_of past (concluded rules net u past s))
   ascend_concluded past (Idle why) before after = before
   ascend_concluded past (Goes now) before after = publish_keeps rules net carried u (ReportsAscend u) ascend_more past now after
@@ -168,20 +168,20 @@ module _ (rules : Rules) (net : Net) (carried : Carried) (u : ℕ) where
   ascend_heard None from m past free up = hears_ascend net u from m past up free
   ascend_heard (Some why) from m past free up = up
 
-  -- so does all that u does with an input, but for the table
+  -- the nodes of the reports still ascend after the answer to an input
   ascend_answered : (i : Input) (past : Chronicle) → ReportsAscend u past → ReportsAscend u (chronicle_of past (answer rules net carried u past i))
   unfolding answer
   ascend_answered (input.Control from m) past up = ascend_heard (refusal_of net (control past) u from m) from m past refl up
   ascend_answered other past up = answer_keeps rules net carried u (ReportsAscend u) ascend_more other past tt up
 
-  -- and with it
+  -- the nodes of the reports still ascend after all that u does with an input
   pub ascend_given : (i : Input) (past : Chronicle) → ReportsAscend u past → ReportsAscend u (chronicle_of past (give rules net carried u past i))
   unfolding give
   ascend_given i past up = ascend_concluded past (answer rules net carried u past i) up (ascend_answered i past up)
 
 -- ---- the table that is published
 
--- what a log brings, an older part of it brings
+-- if each path that a log received begins with its sender, each path that an older part received does
 older_brings : (net : Net) (log c : List Entry) → Older log c → BringsFrom net (reads log) → BringsFrom net (reads c)
 older_brings net log _ whole brings = brings
 older_brings net log _ (less {k = k} {h = h} older) brings = (older_brings net log (k ∷ h) older brings).1
@@ -199,13 +199,13 @@ cut_epoch net u e (Raise w d ∷ past) c all is =
 cut_epoch net u e (f ∷ past) c all is = cut_epoch net u e past c (and_right (fact_fits net u f) (list_all (fact_fits net u) past) all) is
 
 module _ (rules : Rules) (net : Net) (u : ℕ) (here : has net.nodes u ≡ true) (now : Chronicle) (all : AllFacts net u now) (own : Own rules net now u) where
-  -- a decision that is known
+  -- a decision that u knows fits
   known_fits : (e : ℕ) (v : Value) → decision u e now ≡ Some v → value_fits net v ≡ true
   known_fits e v is =
       subst (λ o. IfSome o (λ w. value_fits net w ≡ true)) is
       (decision_fits net (agreement e (control now)) u (agreement_fits net e (control now) (control_all net u now all)))
 
-  -- the table over a cut of u
+  -- the table over a cut of u fits
   cut_table : (e n : ℕ) (c : List Entry) (v : Value) → cut u e now ≡ Some c → table_fits net u (trimmed_table rules net u v (trimmed n c)) ≡ true
   cut_table e n c v is =
       let brings = older_brings net (log_of u now) c (own.marks.older e c is) own.paths in
@@ -227,7 +227,7 @@ module _ (rules : Rules) (net : Net) (u : ℕ) (here : has net.nodes u ≡ true)
   publishing_at None = all
   publishing_at (Some e) = publishing e (dropped_below net u e now) (cut u e now) (decision u e now) refl refl
 
-  -- the table that is due
+  -- all facts fit with the table that is due
   pub published_facts : (past : Chronicle) → AllFacts net u (publish rules net u past now)
   unfolding publish
   published_facts past = publishing_at (find (completes u past now) (raised u now))
@@ -250,7 +250,7 @@ unfolding node_above
 within rules net u now none =
     none_of (nat_lt MOST_EPOCHS (epoch u now)) (has_large_value u now || has_long_list rules net u now) (nat_lt MOST_ENTRIES (length (log_of u now))) (nat_lt MOST_UPDATES (length (sent_of rules net u (log_of u now)))) none
 
--- what goes on with the table went on before it
+-- a step that goes on with its table went on before it
 pub concluded_goes : (rules : Rules) (net : Net) (u : ℕ) (past : Chronicle) (s : Step) (now : Chronicle) → concluded rules net u past s ≡ Goes now
     → (c : Chronicle) × (s ≡ Goes c) × (publish rules net u past c ≡ now)
 concluded_goes rules net u past (Idle why) now e = absurd (cc e)
@@ -263,7 +263,7 @@ unpublished_small rules net carried u past now =
     (λ f c un before small. before (or_right (is_too_large u f) (has_large_value u c) small)) past now (λ small. small)
 
 module _ (rules : Rules) (net : Net) (valid : IsValid net) (carried : Carried) (u : ℕ) (here : has net.nodes u ≡ true) (past : Chronicle) (own : Own rules net past u) (all : AllFacts net u past) where
-  -- an input that goes on, where all facts before its table are such
+  -- all facts fit after an input that goes on, if those before its table do
   pub given_facts : (i : Input) (now : Chronicle) → MayReach net i → give rules net carried u past i ≡ Goes now
       → ((c : Chronicle) → answer rules net carried u past i ≡ Goes c → publish rules net u past c ≡ now → AllFacts net u c) → AllFacts net u now
   unfolding give
@@ -273,12 +273,12 @@ module _ (rules : Rules) (net : Net) (valid : IsValid net) (carried : Carried) (
       subst (λ s. Own rules net (chronicle_of past s) u) g.1 (own_answered rules net u carried past i valid own may) in
       subst (AllFacts net u) g.2 (published_facts rules net u here g.0 (answered g.0 g.1 g.2) own_then past)
 
-  -- a ballot that is to start
+  -- all facts fit after a ballot is to start
   pub propose_given : (e : ℕ) (now : Chronicle) → fits net u (input.Propose e) ≡ true → give rules net carried u past (input.Propose e) ≡ Goes now → AllFacts net u now
   unfolding fits
   propose_given e now fit goes = given_facts (input.Propose e) now tt goes (λ c is published. proposing_facts rules net valid carried u here past all e c fit is)
 
-  -- a control message that comes
+  -- all facts fit after a control message comes
   pub control_given : (from : ℕ) (m : Message) (now : Chronicle) → ReportsAscend u past → fits net u (input.Control from m) ≡ true → node_above rules net u now ≡ None
       → give rules net carried u past (input.Control from m) ≡ Goes now → AllFacts net u now
   unfolding fits

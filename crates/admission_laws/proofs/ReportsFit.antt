@@ -37,14 +37,14 @@ use Rattle.admission_laws.proofs.Waiting.{waiting_are}
 use Rattle.admission_laws.proofs.Bounds.{number_is, most_is, not_long, short_items, Within, Reportable, within_before, outbox_few, said_few, fewer_before}
 use Rattle.admission_laws.proofs.Sessions.{AllFit, first_fits, rest_fits, triggers_of, scope_of, held_number, neighbour_is, sessions_are, sessions_few}
 
--- one item
+-- an item with these parts fits
 sent_is : (net : Net) (w s n : ℕ) (ts : List Trigger) → has net.nodes w ≡ true → is_number s ≡ true → 1 ≤ n → n < 2 ^ 32 → list_fits net ts ≡ true
     → (has net.nodes w && (is_number s && (is_number n && list_fits net ts))) ≡ true
 sent_is net w s n ts node session one few lists =
     and_both (has net.nodes w) (is_number s && (is_number n && list_fits net ts)) node
     (and_both (is_number s) (is_number n && list_fits net ts) session (and_both (is_number n) (list_fits net ts) (number_is n one few) lists))
 
--- items that are numbered on
+-- items that are made of updates fit, numbered on from n
 from_fits : (net : Net) (u w s n : ℕ) (xs : List Update) → has net.nodes w ≡ true → is_number s ≡ true → 1 ≤ n → n + length xs ≤ 2 ^ 32 → list_all (update_fits net u) xs ≡ true
     → list_all (listed_fits net) (sent_from w s n xs) ≡ true
 from_fits net u w s n [] node session one few all = refl
@@ -61,13 +61,13 @@ each_left test zero rows all = all
 each_left test (suc n) [] all = refl
 each_left test (suc n) (r ∷ rows) all = each_left test n rows (and_right (test r) (list_all test rows) all)
 
--- there are no more of them
+-- there are no more rows after the first n than in all
 few_left : (n : ℕ) (rows : List Row) → length (drop n rows) ≤ length rows
 few_left zero rows = omega arith
 few_left (suc n) [] = omega arith
 few_left (suc n) (r ∷ rows) = let less = few_left n rows in omega arith
 
--- nor do they list more items
+-- the rows after the first n list no more items than all
 few_items_left : (n : ℕ) (rows : List Row) → length (items_of (drop n rows)) ≤ length (items_of rows)
 few_items_left zero rows = omega arith
 few_items_left (suc n) [] = omega arith
@@ -76,7 +76,7 @@ few_items_left (suc n) (r ∷ rows) =
     let both = length-append r.sent (items_of rows) in
     omega arith
 
--- nor more triggers
+-- the rows after the first n list no more triggers than all
 few_marks_left : (n : ℕ) (rows : List Row) → marks_of_rows (drop n rows) ≤ marks_of_rows rows
 few_marks_left zero rows = omega arith
 few_marks_left (suc n) [] = omega arith
@@ -84,7 +84,7 @@ few_marks_left (suc n) (r ∷ rows) = let less = few_marks_left n rows in omega 
 
 module _ (rules : Rules) (net : Net) (u : ℕ) (valid : IsValid net) (own : has net.nodes u ≡ true) where
   module _ (k : Entry) (h : List Entry) (all : AllFit net u (k ∷ h)) (fits : Fits (k ∷ h)) (few : Within rules net u (k ∷ h)) where
-    -- the updates that an entry lists for w
+    -- the updates that an entry lists for w fit
     updates_fit : (w : ℕ) (session : Option ℕ) → has (neighbours net u) w ≡ true → held (k.read ∷ reads h) w ≡ session
         → list_all (listed_fits net) (updates_sent (making rules net u h k) w session) ≡ true
     updates_fit w None near is = refl
@@ -93,7 +93,7 @@ module _ (rules : Rules) (net : Net) (u : ℕ) (valid : IsValid net) (own : has 
         (let most = said_few rules net u valid k h w s fits near is in let limit = few.updates in omega arith)
         (news_fit rules net u valid own k h w s all fits few near is)
 
-    -- what it lists for w is short
+    -- the close that an entry lists for w is short
     close_short : (w : ℕ) (session : Option ℕ) → has (neighbours net u) w ≡ true → ready (reads h) w ≡ session → list_any is_long_item (close_sent (making rules net u h k) w session) ≡ false
     unfolding sent_by
     close_short w session near is =
@@ -101,7 +101,7 @@ module _ (rules : Rules) (net : Net) (u : ℕ) (valid : IsValid net) (own : has 
         subst (λ o. list_any is_long_item (close_sent (making rules net u h k) w o) ≡ false) is
         (none_last is_long_item (updates_sent (making rules net u h k) w (held (k.read ∷ reads h) w)) (close_sent (making rules net u h k) w (ready (reads h) w)) here)
 
-    -- the close that it lists for w
+    -- the close that an entry lists for w fits
     close_fits : (w : ℕ) (session : Option ℕ) → has (neighbours net u) w ≡ true → ready (reads h) w ≡ session → list_all (listed_fits net) (close_sent (making rules net u h k) w session) ≡ true
     close_fits w None near is = refl
     close_fits w (Some s) near is =
@@ -122,7 +122,7 @@ module _ (rules : Rules) (net : Net) (u : ℕ) (valid : IsValid net) (own : has 
           | false ↦ λ ends short. refl
         ]) refl (close_short w (Some s) near is)
 
-    -- all that it lists
+    -- all items that the entry lists fit
     entry_lists : list_all (listed_fits net) (sent_by rules net u h k) ≡ true
     unfolding sent_by
     entry_lists =
@@ -131,7 +131,7 @@ module _ (rules : Rules) (net : Net) (u : ℕ) (valid : IsValid net) (own : has 
         each_append (listed_fits net) (updates_sent (making rules net u h k) w (held (k.read ∷ reads h) w)) (close_sent (making rules net u h k) w (ready (reads h) w))
         (updates_fit w (held (k.read ∷ reads h) w) near refl) (close_fits w (ready (reads h) w) near refl))
 
-    -- its row
+    -- the row of the entry fits
     row_is : row_fits net (entry_row rules net u h k) ≡ true
     row_is =
         let items = sent_by rules net u h k in
@@ -139,7 +139,7 @@ module _ (rules : Rules) (net : Net) (u : ℕ) (valid : IsValid net) (own : has 
         and_both (row_lists_fit net k.read.scope k.triggers) (scope_fits net k.read.scope && list_all (listed_fits net) items) (triggers_of net u k entry)
         (and_both (scope_fits net k.read.scope) (list_all (listed_fits net) items) (scope_of net u k entry) entry_lists)
 
-  -- all rows
+  -- the rows of a log fit
   rows_are : (h : List Entry) → AllFit net u h → Fits h → Within rules net u h → list_all (row_fits net) (entry_rows rules net u h) ≡ true
   unfolding entry_rows
   rows_are [] all fits few = refl
@@ -147,7 +147,7 @@ module _ (rules : Rules) (net : Net) (u : ℕ) (valid : IsValid net) (own : has 
       each_append (row_fits net) (entry_rows rules net u h) (entry_row rules net u h k ∷ []) (rows_are h (rest_fits net u k h all) fits.1 (within_before rules net u k h few))
       (and_both (row_fits net (entry_row rules net u h k)) true (row_is k h all fits few) refl)
 
-  -- a row for each entry
+  -- a log has as many rows as entries
   rows_count : (h : List Entry) → length (entry_rows rules net u h) ≡ length h
   unfolding entry_rows
   rows_count [] = refl
@@ -156,7 +156,7 @@ module _ (rules : Rules) (net : Net) (u : ℕ) (valid : IsValid net) (own : has 
       let both = length-append (entry_rows rules net u h) (entry_row rules net u h k ∷ []) in
       omega arith
 
-  -- with all items that the entries list
+  -- the rows of a log list as many items as its entries
   items_count : (h : List Entry) → length (items_of (entry_rows rules net u h)) ≡ length (sent_of rules net u h)
   unfolding entry_rows sent_of
   items_count [] = refl
@@ -169,7 +169,7 @@ module _ (rules : Rules) (net : Net) (u : ℕ) (valid : IsValid net) (own : has 
       let all = length-append (sent_of rules net u h) (sent_by rules net u h k) in
       omega arith
 
-  -- with all triggers that they list
+  -- the rows of a log list as many triggers as its entries and their items
   marks_count : (h : List Entry) → marks_of_rows (entry_rows rules net u h) ≡ entry_marks h + item_marks (sent_of rules net u h)
   unfolding entry_rows sent_of
   marks_count [] = omega arith
@@ -179,7 +179,7 @@ module _ (rules : Rules) (net : Net) (u : ℕ) (valid : IsValid net) (own : has 
       let items = total_append (λ (item : Sent). length item.triggers) (sent_of rules net u h) (sent_by rules net u h k) in
       omega (arith, before, both, items)
 
-  -- so a report lists no more than it may
+  -- the report of a cut lists no more triggers than it may
   report_few : (e n : ℕ) (h : List Entry) → Reportable rules net u h → nat_le (report_marks (trimmed_report rules net u e (trimmed n h))) MOST_MARKS ≡ true
   unfolding trimmed_report marks_of
   report_few e n h listed =
@@ -188,7 +188,7 @@ module _ (rules : Rules) (net : Net) (u : ℕ) (valid : IsValid net) (own : has 
       let limit = listed.marks in
       most_is (marks_of_rows (drop n (entry_rows rules net u h)) + row_marks (pending_rows rules net u h)) MOST_MARKS (omega (arith, count, less, limit))
 
-  -- the report, as a control message of u
+  -- the report of a cut fits as a control message of u
   pub report_is : (e n : ℕ) (h : List Entry) → epoch_fits e ≡ true → AllFit net u h → Fits h → Within rules net u h → Reportable rules net u h
       → message_fits net u (Reports (trimmed_report rules net u e (trimmed n h))) ≡ true
   unfolding trimmed_report
@@ -206,7 +206,7 @@ module _ (rules : Rules) (net : Net) (u : ℕ) (valid : IsValid net) (own : has 
       (and_both (sessions_fit net sessions) (pending_fits net waiting && lists) (sessions_are net u h valid own all fits few.entries)
       (and_both (pending_fits net waiting) lists (waiting_are rules net u valid own h all fits listed.rows) (report_few e n h listed))))))
     where
-      -- they are no more than there may be
+      -- a report has no more rows and items than it may
       counted : (l : List Entry) → Within rules net u l → rows_are_few (drop n (entry_rows rules net u l)) ≡ true
       counted l within =
           let rows = drop n (entry_rows rules net u l) in

@@ -29,12 +29,12 @@ use Rattle.admission_laws.proofs.Holding.{HeldAscend, held_fit}
 
 -- ---- members
 
--- what is one of two and not the second is the first
+-- if one of two tests passes, and the second does not, the first does
 or_off : (b : Bool) → (b || false) ≡ true → b ≡ true
 or_off true h = refl
 or_off false h = h
 
--- what each of them is, one that they have is
+-- if P holds of all numbers of a list, it holds of each
 has_each : (P : ℕ → Type 0) (xs : List ℕ) (n : ℕ) → AllByRecursion P xs → has xs n ≡ true → P n
 has_each P [] n all h = absurd (cc h)
 has_each P (x ∷ xs) n all h =
@@ -50,22 +50,22 @@ consolidators_known net valid =
     (λ n a. has_each (λ m. has net.nodes m ≡ true) net.consolidators n valid.consolidators_are_nodes
     (sym (has-ascending net.consolidators n) ∙ among_has (ascending net.consolidators) n a))
 
--- so are all nodes
+-- the nodes of the network are nodes
 pub nodes_known : (net : Net) → list_all (has net.nodes) (ascending net.nodes) ≡ true
 nodes_known net = all_of (has net.nodes) (ascending net.nodes) (λ n a. sym (has-ascending net.nodes n) ∙ among_has (ascending net.nodes) n a)
 
 -- ---- messages of one agreement
 
--- to a node, and such as u may say
+-- the message goes to a node, and is one that u may say
 abbrev pub going_fits : Net → ℕ → ℕ × Ballots Value → Bool
 going_fits net u p = has net.nodes p.0 && ballots_fit net u p.1
 
--- it proposes no value with more triggers than there may be
+-- the message proposes no value with more triggers than a value may have
 abbrev pub is_small : ℕ × Ballots Value → Bool
 is_small p = not (proposes_more p.1)
 
 module _ (net : Net) (u : ℕ) where
-  -- one message to each of some nodes
+  -- a message that u may say fits for each of some nodes
   to_each_fits : (nodes : List ℕ) (m : Ballots Value) → list_all (has net.nodes) nodes ≡ true → ballots_fit net u m ≡ true → list_all (going_fits net u) (to_each nodes m) ≡ true
   to_each_fits [] m known fit = refl
   to_each_fits (n ∷ ns) m known fit =
@@ -73,14 +73,14 @@ module _ (net : Net) (u : ℕ) where
       (and_both (has net.nodes n) (ballots_fit net u m) (and_left (has net.nodes n) (list_all (has net.nodes) ns) known) fit)
       (to_each_fits ns m (and_right (has net.nodes n) (list_all (has net.nodes) ns) known) fit)
 
-  -- one message to one node
+  -- a message that u may say fits for one node
   to_one_fits : (n : ℕ) (m : Ballots Value) → has net.nodes n ≡ true → ballots_fit net u m ≡ true → list_all (going_fits net u) ((n, m) ∷ []) ≡ true
   to_one_fits n m known fit = and_both (has net.nodes n && ballots_fit net u m) true (and_both (has net.nodes n) (ballots_fit net u m) known fit) refl
 
   no_more : (n : ℕ) → not (nat_lt MOST_TRIGGERS n) ≡ true → nat_le n MOST_TRIGGERS ≡ true
   no_more n small = grind (arith, nat_tests)
 
-  -- a value that is proposed to each of some nodes, where it fits if it is small
+  -- a value that is proposed to each of some nodes fits, if it is small
   accept_fits : (nodes : List ℕ) (b : Ballot) (v : Value) → list_all (has net.nodes) nodes ≡ true → sender_fits net u b ≡ true
       → (nat_le (length v.incomplete) MOST_TRIGGERS ≡ true → value_fits net v ≡ true) → list_all is_small (to_each nodes (Accept b v)) ≡ true
       → list_all (going_fits net u) (to_each nodes (Accept b v)) ≡ true
@@ -93,7 +93,7 @@ module _ (net : Net) (u : ℕ) where
   announce_fits nodes None known fit = refl
   announce_fits nodes (Some v) known fit = to_each_fits nodes (Decision v) known fit
 
-  -- the value that is named, or the fresh one
+  -- the value that is named fits, or else the fresh one
   or_fresh_fits : (o : Option Value) (v : Value) → HasValue net o → (nat_le (length v.incomplete) MOST_TRIGGERS ≡ true → value_fits net v ≡ true)
       → nat_le (length (or_fresh o v).incomplete) MOST_TRIGGERS ≡ true → value_fits net (or_fresh o v) ≡ true
   or_fresh_fits None v fit may few = may few
@@ -106,7 +106,7 @@ module _ (net : Net) (u : ℕ) where
     may_send : (b : Ballot) → has net.consolidators u ≡ true → sender_fits net from b ≡ true → sender_fits net u b ≡ true
     may_send b here fit = and_both (has net.consolidators u) (ballot_fits net b) here (and_right (has net.consolidators from) (ballot_fits net b) fit)
 
-    -- what u answers
+    -- the answers of u to a message that fits are messages that u may say
     pub answers_fit : (m : Ballots Value) → (has net.consolidators u || is_decision m) ≡ true → ballots_fit net from m ≡ true
         → list_all is_small (answers (ballot_setup members nodes v) past u from m) ≡ true → list_all (going_fits net u) (answers (ballot_setup members nodes v) past u from m) ≡ true
     unfolding answers
@@ -139,16 +139,16 @@ module _ (net : Net) (u : ℕ) where
 
 -- ---- messages of all agreements
 
--- to a node, and such as u may say
+-- the control message goes to a node, and is one that u may say
 abbrev pub mail_fits : Net → ℕ → ℕ × Message → Bool
 mail_fits net u m = has net.nodes m.0 && (message_fits net u m.1 && is_short m.1)
 
--- it proposes no value with more triggers than there may be
+-- the control message proposes no value with more triggers than a value may have
 abbrev pub mail_small : ℕ × Message → Bool
 mail_small m = not (is_large m.1)
 
 module _ (net : Net) (u e : ℕ) where
-  -- what goes out in the agreement of an epoch
+  -- what goes out in the agreement of an epoch fits as control messages
   pub of_epoch_fits : (ms : List (ℕ × Ballots Value)) → has net.nodes u ≡ true → epoch_fits e ≡ true → list_all (going_fits net u) ms ≡ true → list_all (mail_fits net u) (of_epoch e ms) ≡ true
   of_epoch_fits [] here at all = refl
   of_epoch_fits (m ∷ ms) here at all =
@@ -172,11 +172,11 @@ addressed true why free = refl
 addressed false why free = absurd (cc free)
 
 module _ (net : Net) (valid : IsValid net) (u : ℕ) (here : has net.nodes u ≡ true) (past : Chronicle) (all : list_all (control_fits net) past ≡ true) where
-  -- the value that u proposes where none is named
+  -- the value that u proposes where none is named fits
   fresh_fits : (e : ℕ) → HeldAscend u past → nat_le (length (fresh u e past).incomplete) MOST_TRIGGERS ≡ true → value_fits net (fresh u e past) ≡ true
   fresh_fits e up few = value_of_fits net (reports_held u e past) (held_fit net u e past all) (up e) few
 
-  -- what u answers to a message that it does not refuse
+  -- the answers of u to a message that it does not refuse fit
   pub replies_fit : (from : ℕ) (m : Message) → HeldAscend u past → message_fits net from m ≡ true → refusal_of net past u from m ≡ None
       → list_all mail_small (replies net past u from m) ≡ true → list_all (mail_fits net u) (replies net past u from m) ≡ true
   unfolding replies refusal_of
@@ -190,7 +190,7 @@ module _ (net : Net) (valid : IsValid net) (u : ℕ) (here : has net.nodes u ≡
       m (addressed (has net.consolidators u || is_decision m) (refused past u from (Agrees e m)) free) (ballots_of net from e m fit)
       (of_epoch_small net u e out small))
 
-  -- a consolidator that is to propose, and does
+  -- a node that does not refuse to propose is a consolidator, and has no reason not to
   pub proposer : (e : ℕ) → proposal_refusal net past u e ≡ None → (has net.consolidators u ≡ true) × (not_proposing (agreement e past) (reports_held u e past) u ≡ None)
   unfolding proposal_refusal
   proposer e free = by (has net.consolidators u) free
@@ -200,13 +200,13 @@ module _ (net : Net) (valid : IsValid net) (u : ℕ) (here : has net.nodes u ≡
       by true free = (refl, free)
       by false free = absurd (cc free)
 
-  -- the ballot that it starts
+  -- the ballot that u starts fits
   pub ballot_of_fits : (e : ℕ) → proposal_refusal net past u e ≡ None → ballot_fits net (ballot_of past u e) ≡ true
   ballot_of_fits e free =
       next_fits net (agreement e past) u (agreement_fits net e past all) here
       (has_round (agreement e past) (reports_held u e past) u (proposer e free).1)
 
-  -- what it asks
+  -- the requests of a ballot fit
   pub asks_fit : (e : ℕ) → epoch_fits e ≡ true → proposal_refusal net past u e ≡ None → list_all (mail_fits net u) (asks net past u e) ≡ true
   unfolding asks
   asks_fit e at free =

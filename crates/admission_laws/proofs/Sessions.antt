@@ -45,11 +45,11 @@ abbrev pub AllFit : Net → ℕ → List Entry → Type 0
 AllFit net u h = list_all (entry_fits net u) h ≡ true
 
 module _ (net : Net) (u : ℕ) where
-  -- the first entry fits
+  -- if all entries of a log fit, the newest does
   pub first_fits : (k : Entry) (h : List Entry) → AllFit net u (k ∷ h) → entry_fits net u k ≡ true
   first_fits k h all = and_left (entry_fits net u k) (list_all (entry_fits net u) h) all
 
-  -- so do those before it
+  -- if all entries of a log fit, those before the newest do
   pub rest_fits : (k : Entry) (h : List Entry) → AllFit net u (k ∷ h) → AllFit net u h
   rest_fits k h all = and_right (entry_fits net u k) (list_all (entry_fits net u) h) all
 
@@ -57,13 +57,13 @@ module _ (net : Net) (u : ℕ) where
   pub triggers_of : (k : Entry) → entry_fits net u k ≡ true → row_lists_fit net k.read.scope k.triggers ≡ true
   triggers_of k is = and_left (row_lists_fit net k.read.scope k.triggers) (scope_fits net k.read.scope && cause_fits net u k.read.cause) is
 
-  -- its scope
+  -- a fitting entry has a scope that fits
   pub scope_of : (k : Entry) → entry_fits net u k ≡ true → scope_fits net k.read.scope ≡ true
   scope_of k is =
       and_left (scope_fits net k.read.scope) (cause_fits net u k.read.cause)
       (and_right (row_lists_fit net k.read.scope k.triggers) (scope_fits net k.read.scope && cause_fits net u k.read.cause) is)
 
-  -- its cause
+  -- a fitting entry has a cause that fits
   pub cause_of : (k : Entry) → entry_fits net u k ≡ true → cause_fits net u k.read.cause ≡ true
   cause_of k is =
       and_right (scope_fits net k.read.scope) (cause_fits net u k.read.cause)
@@ -71,7 +71,7 @@ module _ (net : Net) (u : ℕ) where
 
   -- ---- numbers
 
-  -- the session that a cause leaves
+  -- the session that is held after a fitting cause has a number that fits
   held_then : (cause : Cause) (w s : ℕ) (a : Option ℕ) → cause_fits net u cause ≡ true → (a ≡ Some s → is_number s ≡ true) → held_by cause w a ≡ Some s → is_number s ≡ true
   held_then Originate w s a fits before is = before is
   held_then Withdraw w s a fits before is = before is
@@ -87,13 +87,13 @@ module _ (net : Net) (u : ℕ) where
         | false ↦ λ r. before r
       ]) is
 
-  -- the session that is held
+  -- the session that is held has a number that fits
   pub held_number : (h : List Entry) (w s : ℕ) → AllFit net u h → held (reads h) w ≡ Some s → is_number s ≡ true
   held_number [] w s all is = let same : 1 ≡ s = cc in number_is s (omega arith) (omega arith)
   held_number (k ∷ h) w s all is =
       held_then k.read.cause w s (held (reads h) w) (cause_of k (first_fits k h all)) (λ before. held_number h w s (rest_fits k h all) before) is
 
-  -- the session that a cause opens
+  -- the sessions that a fitting cause opens have numbers that fit
   opened_numbers : (cause : Cause) (w : ℕ) → cause_fits net u cause ≡ true → list_all is_number (opens_by cause w) ≡ true
   opened_numbers Originate w fits = refl
   opened_numbers Withdraw w fits = refl
@@ -108,13 +108,13 @@ module _ (net : Net) (u : ℕ) where
         | false ↦ refl
       ]
 
-  -- all that were ever held
+  -- all sessions that were ever held have numbers that fit
   ever_numbers : (h : List Entry) (w : ℕ) → AllFit net u h → list_all is_number (ever h w) ≡ true
   ever_numbers [] w all = refl
   ever_numbers (k ∷ h) w all =
       each_append is_number (ever h w) (opens_by k.read.cause w) (ever_numbers h w (rest_fits k h all)) (opened_numbers k.read.cause w (cause_of k (first_fits k h all)))
 
-  -- what ends a session lists something
+  -- the Down of a session lists something
   closing_lists : (h : List Entry) (w s : ℕ) → AllFit net u h → Fits h → down_fits net (closing h w s) ≡ true
   closing_lists [] w s all fits = refl
   closing_lists (k ∷ h) w s all fits =
@@ -125,13 +125,14 @@ module _ (net : Net) (u : ℕ) where
 
 -- ---- in order
 
--- in front of the first of two lists, or of the second where the first is empty
+-- an element that stands before the first of a list, or before the first of the next list where that one is empty,
+-- stands before the first of their concatenation
 leads_append : {A : Type 0} (before : A → A → Bool) (x : A) (xs ys : List A) → leads before x xs ≡ true → ((y : A) → Among y ys → before x y ≡ true) → leads before x (xs ++ ys) ≡ true
 leads_append before x [] [] first all = refl
 leads_append before x [] (y ∷ ys) first all = all y (inl refl)
 leads_append before x (z ∷ xs) ys first all = first
 
--- two lists in order, the first before the second
+-- two lists in order are in order together, if the elements of the first stand before those of the second
 pub order_append : {A : Type 0} (before : A → A → Bool) (xs ys : List A) → in_order before xs ≡ true → in_order before ys ≡ true → ((x y : A) → Among x xs → Among y ys → before x y ≡ true)
     → in_order before (xs ++ ys) ≡ true
 order_append before [] ys a b all = b
@@ -140,7 +141,7 @@ order_append before (x ∷ xs) ys a b all =
     (leads_append before x xs ys (and_left (leads before x xs) (in_order before xs) a) (λ y there. all x y (inl refl) there))
     (order_append before xs ys (and_right (leads before x xs) (in_order before xs) a) b (λ z y here there. all z y (inr here) there))
 
--- what is made of a list in order, where it keeps the order
+-- what is made of a list in order is in order, if what is made keeps the order
 pub order_map : {A B : Type 0} (before : A → A → Bool) (then' : B → B → Bool) (f : A → B) (xs : List A) → ((x y : A) → before x y ≡ true → then' (f x) (f y) ≡ true) → in_order before xs ≡ true
     → in_order then' (map f xs) ≡ true
 order_map before then' f [] step a = refl
@@ -161,7 +162,7 @@ ever_below h w s fits there =
       | false ↦ λ e. grind (arith, nat_tests)
     ]) refl
 
--- one session more, above all
+-- the sessions still ascend with one more that is above all
 opened_last : (k : Entry) (h : List Entry) (cause : Cause) (w : ℕ) → k.read.cause ≡ cause → Fits (k ∷ h) → in_order nat_lt (ever h w) ≡ true → in_order nat_lt (ever h w ++ opens_by cause w) ≡ true
 opened_last k h Originate w is fits before = order_append nat_lt (ever h w) [] before refl (λ x y here there. absurd there)
 opened_last k h Withdraw w is fits before = order_append nat_lt (ever h w) [] before refl (λ x y here there. absurd there)
@@ -195,11 +196,11 @@ row_of f w (x ∷ xs) row all there =
     ⊎_elim (λ (same : f x ≡ row). sym (ap (λ (r : SessionRow). r.nbr) same) ∙ all x) (λ (later : Among row (map f xs)). row_of f w xs row all later) there
 
 module _ (h : List Entry) where
-  -- the rows of some neighbours
+  -- the rows of the sessions with these neighbours
   abbrev rows_for : List ℕ → List SessionRow
   rows_for ws = flat_map (λ w. map (session_row h w) (ever h w)) ws
 
-  -- they are of neighbours above this one
+  -- rows of neighbours above v are rows of a neighbour above v
   rows_above : (v : ℕ) (ws : List ℕ) (row : SessionRow) → AllByRecursion (λ w. v < w) ws → Among row (rows_for ws) → v < row.nbr
   rows_above v [] row above there = absurd there
   rows_above v (w ∷ ws) row above there =
@@ -207,7 +208,7 @@ module _ (h : List Entry) where
       (λ (later : Among row (rows_for ws)). rows_above v ws row above.1 later)
       (among_append (map (session_row h w) (ever h w)) (rows_for ws) row there)
 
-  -- rows by neighbour, then by session
+  -- the rows are in order, by neighbour and then by session
   rows_order : (ws : List ℕ) → Fits h → Rises ws → in_order sooner (rows_for ws) ≡ true
   rows_order [] fits rises = refl
   rows_order (w ∷ ws) fits rises =
@@ -219,17 +220,17 @@ module _ (h : List Entry) where
       let low = rows_above w ws b rises.0 there in
       next_neighbour a b (omega arith))
     where
-      -- a later session of the same neighbour
+      -- a later session of the same neighbour comes later
       next_session : (v s t : ℕ) → nat_lt s t ≡ true → (nat_lt v v || (v == v && nat_lt s t)) ≡ true
       next_session v s t less = grind (arith, nat_tests)
 
-      -- a session of a later neighbour
+      -- a session of a higher neighbour comes later
       next_neighbour : (a b : SessionRow) → a.nbr < b.nbr → sooner a b ≡ true
       next_neighbour a b less = grind (arith, nat_tests)
 
 -- ---- how many sessions there are
 
--- one update at most comes with an entry
+-- an entry receives at most one update
 received_few : (triggers : List Trigger) (scope : Scope) (cause : Cause) (v s : ℕ) → length (received_by triggers scope cause v s) ≤ 1
 received_few triggers All cause v s = omega arith
 received_few triggers Nothing cause v s = omega arith
@@ -244,7 +245,7 @@ received_few triggers (One p) (Recv w t seq path) v s =
     let x : Update = record { prefix = p; triggers = triggers; path = path } in
     elim (w == v && t == s) as (λ b. length (cond b (x ∷ []) []) ≤ 1) [ true ↦ omega arith | false ↦ omega arith ]
 
--- no more updates were received than there are entries
+-- a log received no more updates in a session than it has entries
 inbox_few : (h : List Entry) (v s : ℕ) → length (inbox h v s) ≤ length h
 inbox_few [] v s = omega arith
 inbox_few (k ∷ h) v s =
@@ -253,17 +254,17 @@ inbox_few (k ∷ h) v s =
     let both = length-append (inbox h v s) (received_by k.triggers k.read.scope k.read.cause v s) in
     omega arith
 
--- how many sessions of these neighbours there were
+-- the number of sessions ever held with these neighbours
 abbrev total : List Entry → List ℕ → ℕ
 total h [] = 0
 total h (w ∷ ws) = length (ever h w) + total h ws
 
--- how many a cause opens with them
+-- the number of sessions that a cause opens with these neighbours
 abbrev opened_in : Cause → List ℕ → ℕ
 opened_in cause [] = 0
 opened_in cause (w ∷ ws) = length (opens_by cause w) + opened_in cause ws
 
--- there are as many rows
+-- there are as many rows as sessions
 rows_count : (h : List Entry) (ws : List ℕ) → length (rows_for h ws) ≡ total h ws
 rows_count h [] = refl
 rows_count h (w ∷ ws) =
@@ -272,7 +273,7 @@ rows_count h (w ∷ ws) =
     let later = rows_count h ws in
     omega arith
 
--- an entry adds those that it opens
+-- an entry adds the sessions that it opens
 total_more : (k : Entry) (h : List Entry) (ws : List ℕ) → total (k ∷ h) ws ≡ total h ws + opened_in k.read.cause ws
 total_more k h [] = refl
 total_more k h (w ∷ ws) =
@@ -280,7 +281,7 @@ total_more k h (w ∷ ws) =
     let later = total_more k h ws in
     omega arith
 
--- with others than its neighbour it opens none
+-- an opening with v opens no session with others
 none_opened : (v t : ℕ) (ws : List ℕ) → has ws v ≡ false → opened_in (Up v t) ws ≡ 0
 none_opened v t [] off = refl
 none_opened v t (w ∷ ws) off =
@@ -289,7 +290,7 @@ none_opened v t (w ∷ ws) off =
     let rest = none_opened v t ws later in
     rw here (omega (arith, rest))
 
--- one at most, where the neighbours differ
+-- an opening opens at most one session, if the neighbours differ
 one_opened : (v t : ℕ) (ws : List ℕ) → differ ws ≡ true → opened_in (Up v t) ws ≤ 1
 one_opened v t [] apart = omega arith
 one_opened v t (w ∷ ws) apart =
@@ -301,12 +302,12 @@ one_opened v t (w ∷ ws) apart =
       | false ↦ λ e. let rest = one_opened v t ws (and_right (not (has ws w)) (differ ws) apart) in omega arith
     ]) refl
 
--- a cause that opens nothing
+-- a cause that opens nothing opens at most one session
 nothing_opened : (cause : Cause) (ws : List ℕ) → ((w : ℕ) → opens_by cause w ≡ []) → opened_in cause ws ≤ 1
 nothing_opened cause [] none = omega arith
 nothing_opened cause (w ∷ ws) none = let rest = nothing_opened cause ws none in rw none (omega (arith, rest))
 
--- so does each cause
+-- each cause opens at most one session
 opened_few : (cause : Cause) (ws : List ℕ) → differ ws ≡ true → opened_in cause ws ≤ 1
 opened_few Originate ws apart = nothing_opened Originate ws (λ w. refl)
 opened_few Withdraw ws apart = nothing_opened Withdraw ws (λ w. refl)
@@ -317,12 +318,12 @@ opened_few (Prefer v x) ws apart = nothing_opened (Prefer v x) ws (λ w. refl)
 opened_few (Flush v) ws apart = nothing_opened (Flush v) ws (λ w. refl)
 opened_few (Up v t) ws apart = one_opened v t ws apart
 
--- as many as neighbours at the start
+-- at the start there are as many sessions as neighbours
 total_start : (ws : List ℕ) → total [] ws ≡ length ws
 total_start [] = refl
 total_start (w ∷ ws) = let rest = total_start ws in omega arith
 
--- and one more at most with each entry
+-- there is at most one session more for each entry
 total_few : (h : List Entry) (ws : List ℕ) → differ ws ≡ true → total h ws ≤ length ws + length h
 total_few [] ws apart = let start = total_start ws in omega arith
 total_few (k ∷ h) ws apart =
@@ -337,7 +338,7 @@ total_few (k ∷ h) ws apart =
 pub neighbour_is : (net : Net) (u w : ℕ) → IsValid net → has (neighbours net u) w ≡ true → has net.nodes w ≡ true
 neighbour_is net u w valid near = (linked_nodes net u w valid (sym (neighbours_linked net u w valid) ∙ near)).1
 
--- a row for the first session with each neighbour, and one at most for each entry
+-- a log has a row for the first session with each neighbour, and at most one for each entry
 pub sessions_few : (net : Net) (u : ℕ) (h : List Entry) → IsValid net → has net.nodes u ≡ true → length h ≤ MOST_ENTRIES → length (session_rows net u h) ≤ 63 + MOST_ENTRIES
 unfolding session_rows
 sessions_few net u h valid own few =
@@ -346,7 +347,7 @@ sessions_few net u h valid own few =
     let near = neighbours_few net u valid own in
     omega arith
 
--- all sessions of a log that fits
+-- the session rows of a fitting log fit
 pub sessions_are : (net : Net) (u : ℕ) (h : List Entry) → IsValid net → has net.nodes u ≡ true → AllFit net u h → Fits h → length h ≤ MOST_ENTRIES → sessions_fit net (session_rows net u h) ≡ true
 unfolding session_rows
 sessions_are net u h valid own all fits few =
@@ -358,11 +359,11 @@ sessions_are net u h valid own all fits few =
     (most_is (length rows) MOST_SESSIONS
     (let most = sessions_few net u h valid own few in omega arith)))
   where
-    -- the rows of all neighbours
+    -- the session rows of all neighbours
     rows : List SessionRow
     rows = rows_for h (neighbours net u)
 
-    -- one of them
+    -- each of the session rows fits
     one : (w s : ℕ) → has (neighbours net u) w ≡ true → Among s (ever h w) → session_fits net (session_row h w s) ≡ true
     one w s near there =
         and_both (has net.nodes w) (is_number s && (nat_lt (length (inbox h w s)) (2 ^ 32) && down_fits net (closing h w s))) (neighbour_is net u w valid near)

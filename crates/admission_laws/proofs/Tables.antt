@@ -24,12 +24,12 @@ use Rattle.admission_laws.specs.Handing.{table_fits}
 
 -- ---- paths
 
--- nodes of the network
+-- a list of nodes in the network is a list of nodes
 nodes_in : (net : Net) (ns : List ℕ) → AreIn net ns → are_nodes net ns ≡ true
 nodes_in net [] inside = refl
 nodes_in net (n ∷ ns) inside = and_both (has net.nodes n) (are_nodes net ns) inside.0 (nodes_in net ns inside.1)
 
--- a path that begins with u, repeats no node and stays in the network
+-- a path that begins with u, repeats no node and stays in the network fits
 pub path_of_fits : (net : Net) (u : ℕ) (path : Option (List ℕ)) → IfSome path (IsPathFrom u) → IfSome path (AreIn net) → path_fits net u path ≡ true
 path_of_fits net u None from inside = refl
 path_of_fits net u (Some path) from inside =
@@ -37,7 +37,7 @@ path_of_fits net u (Some path) from inside =
     and_both (begins_with u path) (differ path && are_nodes net path) begins
     (and_both (differ path) (are_nodes net path) from.simple.different (nodes_in net path inside))
 
--- what the updates of a log bring, those of its complete entries bring
+-- if the updates of a log bring only paths of a kind, those of its complete entries do
 some_bring : (IsKind : List ℕ → Type 0) (n : ℕ) (incomplete : Trigger → Bool) (p : ℕ) (h : List Entry) → BringsAll IsKind (reads h) → BringsAll IsKind (reads (complete_after n incomplete p h))
 some_bring IsKind n incomplete p [] all = tt
 some_bring IsKind n incomplete p (k ∷ h) all =
@@ -46,7 +46,7 @@ some_bring IsKind n incomplete p (k ∷ h) all =
       | false ↦ some_bring IsKind n incomplete p h all.1
     ]
 
--- a path that all answered
+-- the path that is answered fits, if the best path does
 answered_fits : (net : Net) (u : ℕ) (value : Value) (path : Option (List ℕ)) → path_fits net u path ≡ true → path_fits net u (option_and_then (answered value u) path) ≡ true
 answered_fits net u value None fit = refl
 answered_fits net u value (Some path) fit =
@@ -55,7 +55,7 @@ answered_fits net u value (Some path) fit =
 -- ---- tables
 
 module _ (rules : Rules) (net : Net) (u : ℕ) (here : has net.nodes u ≡ true) (value : Value) (cut : Trimmed) (simple : BringsPaths (reads cut.entries)) (inside : BringsPathsIn net (reads cut.entries)) where
-  -- the path of a prefix
+  -- the path of the table for a prefix fits
   one_path : (p : ℕ) → path_fits net u (trimmed_path rules net u value cut p) ≡ true
   unfolding trimmed_path
   one_path p =
@@ -65,13 +65,13 @@ module _ (rules : Rules) (net : Net) (u : ℕ) (here : has net.nodes u ≡ true)
       (best_path rules net u h p (some_bring IsPath cut.dropped (lists value.incomplete) p cut.entries simple))
       (best_in rules net u h p here (some_bring (AreIn net) cut.dropped (lists value.incomplete) p cut.entries inside)))
 
-  -- the paths of all of them
+  -- the paths of the table for all prefixes fit
   all_paths : (ps : List ℕ) → list_all (path_fits net u) (map (trimmed_path rules net u value cut) ps) ≡ true
   all_paths [] = refl
   all_paths (p ∷ ps) =
       and_both (path_fits net u (trimmed_path rules net u value cut p)) (list_all (path_fits net u) (map (trimmed_path rules net u value cut) ps)) (one_path p) (all_paths ps)
 
-  -- the table of u over a cut that brought paths of its neighbours
+  -- the table of u over this cut fits
   pub table_of_fits : table_fits net u (trimmed_table rules net u value cut) ≡ true
   unfolding trimmed_table places
   table_of_fits =

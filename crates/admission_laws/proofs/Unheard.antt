@@ -50,47 +50,47 @@ unheard_packet (Crash node) of = absurd of
 unheard_packet other of = tt
 
 module _ (rules : Rules) (net : Net) (carried : Carried) (u : ℕ) (P : Chronicle → Type 0) (more : (f : Fact) (now : Chronicle) → IsUnheard f → P now → P (f ∷ now)) where
-  -- what u sends
+  -- P is kept by the items that u sends
   sends_keep : (gs : List Going) (now : Chronicle) → P now → P (happen now (sends carried u gs))
   sends_keep [] now before = before
   sends_keep (g ∷ gs) now before =
       let f = Sent u g.to g.session g.item (carried g.to g.session) in
       sends_keep gs (f ∷ now) (more f now tt before)
 
-  -- what u mails
+  -- P is kept by the control messages that u sends
   pub mails_keep : (ms : List (ℕ × Message)) (now : Chronicle) → P now → P (happen now (mails u ms))
   mails_keep [] now before = before
   mails_keep (m ∷ ms) now before = mails_keep ms (Mail u m.0 m.1 ∷ now) (more (Mail u m.0 m.1) now tt before)
 
-  -- an entry of u
+  -- P is kept by an entry of u
   write_keeps : (k : Entry) (now : Chronicle) → P now → P (write rules net carried u k now)
   unfolding write
   write_keeps k now before = sends_keep (going_by rules net u (log_of u now) k) (Log u k ∷ now) (more (Log u k) now tt before)
 
-  -- an opening of u
+  -- P is kept by an opening of u
   open_keeps : (v s : ℕ) (now : Chronicle) → P now → P (open_session carried u v s now)
   unfolding open_session
   open_keeps v s now before =
       let k = opening carried u v s now in
       sends_keep (greeting v s (epoch u now)) (Log u k ∷ now) (more (Log u k) now tt before)
 
-  -- a cut of u, and its reports
+  -- P is kept by a cut of u with its reports
   raise_keeps : (e : ℕ) (now : Chronicle) → P now → P (raise rules net carried u e now)
   unfolding raise take_cut
   raise_keeps e now before =
       mails_keep (reporting rules net u e (kept_log net u now)) (happen (Raise u e ∷ now) (sends carried u (markers net u e (log_of u now))))
       (sends_keep (markers net u e (log_of u now)) (Raise u e ∷ now) (more (Raise u e) now tt before))
 
-  -- a mark that u meets
+  -- P is kept by a mark that u meets
   mark_keeps : (e : ℕ) (now : Chronicle) → P now → P (meet_mark rules net carried u e now)
   mark_keeps e now before = elim (nat_lt (epoch u now) e) as (λ t. P (if t then raise rules net carried u e now else now)) [ true ↦ raise_keeps e now before | false ↦ before ]
 
-  -- unless u knows that the other end is ready
+  -- P is kept, whether u knows that the other end is ready or not
   ready_keeps : (o : Option ℕ) (past now : Chronicle) → P past → P now → P (unless_ready o past now)
   ready_keeps (Some s) past now before after = before
   ready_keeps None past now before after = after
 
-  -- an item that u takes
+  -- P is kept by an item that u takes
   item_keeps : (v s : ℕ) (x : Item) (now : Chronicle) → P now → P (take_item rules net carried u (arrival v s x) now)
   unfolding take_item
   item_keeps v s (News n x) now before =
@@ -103,12 +103,12 @@ module _ (rules : Rules) (net : Net) (carried : Carried) (u : ℕ) (P : Chronicl
       ready_keeps (ready (reads (log_of u now)) v) met (write rules net carried u (local u (log_of u met) All (cause.Ready v s)) met) after
       (write_keeps (local u (log_of u met) All (cause.Ready v s)) met after)
 
-  -- where there is a reason, nothing is done
+  -- P is kept by a step that may do nothing for a reason
   unless_keeps : (o : Option Reason) (past now : Chronicle) → P past → P now → P (chronicle_of past (unless o now))
   unless_keeps None past now before after = after
   unless_keeps (Some why) past now before after = before
 
-  -- an item that comes
+  -- P is kept by the step in which an item comes
   comes_keep : (v s : ℕ) (x : Item) (now : Chronicle) → P now → P (chronicle_of now (comes rules net carried u now (arrival v s x)))
   comes_keep v s x now before =
       let held_here = is_session (held (reads (log_of u now)) v) s in
@@ -118,12 +118,12 @@ module _ (rules : Rules) (net : Net) (carried : Carried) (u : ℕ) (P : Chronicl
         | false ↦ unless_keeps turn now (take_item rules net carried u (arrival v s x) now) before (item_keeps v s x now before)
       ]
 
-  -- a session that is over
+  -- P is kept by the step that closes a session
   closes_keep : (o : Option ℕ) (v : ℕ) (now : Chronicle) → P now → P (chronicle_of now (closes o (λ s. write rules net carried u (local u (log_of u now) All (cause.Down v s)) now)))
   closes_keep None v now before = before
   closes_keep (Some s) v now before = write_keeps (local u (log_of u now) All (cause.Down v s)) now before
 
-  -- what is held back goes out
+  -- P is kept by the step that sends what is held back
   flushes_keep : (v : ℕ) (o : Option ℕ) (now : Chronicle) → P now → P (chronicle_of now (flushes rules net carried u now v o))
   flushes_keep v None now before = before
   flushes_keep v (Some s) now before =
@@ -132,7 +132,7 @@ module _ (rules : Rules) (net : Net) (carried : Carried) (u : ℕ) (P : Chronicl
         | false ↦ before
       ]
 
-  -- a session that opens
+  -- P is kept by the step that opens a session
   opens_keep : (v s : ℕ) (o : Option ℕ) (now : Chronicle) → P now → P (chronicle_of now (opens carried u now v s o))
   opens_keep v s (Some h) now before = before
   opens_keep v s None now before =
@@ -141,14 +141,14 @@ module _ (rules : Rules) (net : Net) (carried : Carried) (u : ℕ) (P : Chronicl
         | false ↦ before
       ]
 
-  -- a ballot that starts
+  -- P is kept by a ballot that starts
   proposes_keep : (e : ℕ) (now : Chronicle) → P now → P (proposes net u now e)
   unfolding proposes
   proposes_keep e now before =
       let b = ballot_of (control now) u e in
       mails_keep (asks net (control now) u e) (Start u e b ∷ now) (more (Start u e b) now tt before)
 
-  -- an input but a control message, without the table that may be due then
+  -- P is kept by the answer to an input that is no control message
   pub answer_keeps : (i : Input) (past : Chronicle) → BringsNoMail i → P past → P (chronicle_of past (answer rules net carried u past i))
   unfolding answer
   answer_keeps (input.Originate p) past quiet before =
@@ -174,7 +174,7 @@ module _ (rules : Rules) (net : Net) (carried : Carried) (u : ℕ) (P : Chronicl
   answer_keeps (input.Inject id p) past quiet before = injects_keep rules net u past P (λ f of. more f past (unheard_packet f of) before) id p
   answer_keeps (input.Hop packet up) past quiet before = forwards_keep rules net u past P (λ f of. more f past (unheard_packet f of) before) packet up
 
-  -- the table that is due
+  -- P is kept by the table that is due
   published_by : (e : ℕ) (c : Option Trimmed) (value : Option Value) (now : Chronicle) → P now
       → P (goes_on_with (option_and_then (λ (k : Trimmed). option_map (λ (v : Value). Publish u e v (trimmed_table rules net u v k)) value) c) now)
   published_by e None value now before = before

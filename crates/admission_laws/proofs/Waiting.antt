@@ -28,13 +28,13 @@ use Rattle.admission_laws.proofs.Sessions.{AllFit, held_number, neighbour_is, or
 
 -- ---- ascending numbers
 
--- what all of a list are, those that a test leaves are
+-- what holds of all numbers of a list holds of those that a test leaves
 all_left : (P : ℕ → Type 0) (test : ℕ → Bool) (xs : List ℕ) → AllByRecursion P xs → AllByRecursion P (filter test xs)
 all_left P test [] all = tt
 all_left P test (x ∷ xs) all =
     elim (test x) as (λ t. AllByRecursion P (cond t (x ∷ filter test xs) (filter test xs))) [ true ↦ (all.0, all_left P test xs all.1) | false ↦ all_left P test xs all.1 ]
 
--- a test leaves them rising
+-- the numbers that a test leaves of a list that rises rise
 rising_left : (test : ℕ → Bool) (xs : List ℕ) → Rises xs → Rises (filter test xs)
 rising_left test [] up = tt
 rising_left test (x ∷ xs) up =
@@ -43,7 +43,7 @@ rising_left test (x ∷ xs) up =
       | false ↦ rising_left test xs up.1
     ]
 
--- the numbers of a range are above what is below its start
+-- the numbers of a range are above each number below its start
 range_above : (x a n : ℕ) → x < a → AllByRecursion (λ y. x < y) (range_with_len a n)
 range_above x a zero low = tt
 range_above x a (suc n) low = (low, range_above x (a + 1) n (omega arith))
@@ -52,7 +52,7 @@ range_rises : (a n : ℕ) → Rises (range_with_len a n)
 range_rises a zero = tt
 range_rises a (suc n) = (range_above a (a + 1) n (omega arith), range_rises (a + 1) n)
 
--- what rises stands in order
+-- a list that rises is in order
 rising_order : (xs : List ℕ) → Rises xs → in_order nat_lt xs ≡ true
 rising_order [] up = refl
 rising_order (x ∷ []) up = refl
@@ -65,7 +65,7 @@ module _ (rules : Rules) (net : Net) (u : ℕ) (valid : IsValid net) (own : has 
   abbrev waiting_at : ℕ → List ℕ
   waiting_at w = filter (is_pending rules net u h w) (range_with_len 0 (length net.prefixes))
 
-  -- the rows of w in the session that there may be
+  -- the rows for w, if a session is held with it
   rows_for : ℕ → Option ℕ → List Pending
   rows_for w None = []
   rows_for w (Some s) = map (pending_row (pending rules net u h w) w s) (waiting_at w)
@@ -102,7 +102,7 @@ module _ (rules : Rules) (net : Net) (u : ℕ) (valid : IsValid net) (own : has 
 
   -- ---- they ascend
 
-  -- rows of w are of w
+  -- the rows for w are rows of w
   of_w : (w : ℕ) (session : Option ℕ) (row : Pending) → Among row (rows_for w session) → row.to ≡ w
   unfolding rows_for
   of_w w None row there = absurd there
@@ -110,7 +110,7 @@ module _ (rules : Rules) (net : Net) (u : ℕ) (valid : IsValid net) (own : has 
       let one = among_made (pending_row (pending rules net u h w) w s) (waiting_at w) row there in
       subst (λ (r : Pending). r.to ≡ w) one.2 refl
 
-  -- those of others are above
+  -- the rows for neighbours above v are rows of a neighbour above v
   rows_above : (v : ℕ) (ws : List ℕ) (row : Pending) → AllByRecursion (λ w. v < w) ws → Among row (rows_of ws) → v < row.to
   rows_above v [] row above there = absurd there
   rows_above v (w ∷ ws) row above there =
@@ -164,7 +164,7 @@ module _ (rules : Rules) (net : Net) (u : ℕ) (valid : IsValid net) (own : has 
       let rest = rows_few ws in
       omega (arith, both, here, rest)
 
--- all that is held back
+-- the rows of all that is held back fit, and are in order
 pub waiting_are : (rules : Rules) (net : Net) (u : ℕ) → IsValid net → has net.nodes u ≡ true → (h : List Entry) → AllFit net u h → Fits h → list_any is_long_row (pending_rows rules net u h) ≡ false
     → pending_fits net (pending_rows rules net u h) ≡ true
 unfolding pending_rows

@@ -21,7 +21,7 @@ use Rattle.chronicle.specs.Steps.{Carried, sends, mails, write, open_session, ma
 use Rattle.chronicle.proofs.Blocks.{same_number, opening, greeting}
 use Rattle.chronicle.specs.Publications.{Publication, epoch_of, publications, newest, is_above}
 
--- an epoch above the newest of a longer list is above the first one
+-- an epoch above the newest of a list of publications is above the first of them
 pub above_one : (e : ℕ) (t : Publication) (other : Option Publication) → is_above e (Some (tables.newer epoch_of t other)) ≡ true → nat_lt t.epoch e ≡ true
 above_one e t None above = above
 above_one e t (Some o) above =
@@ -30,7 +30,7 @@ above_one e t (Some o) above =
       | false ↦ λ low high. high
     ]) refl above
 
--- and above the newest of the others
+-- an epoch above the newest of a list of publications is above the newest of those behind the first
 pub above_others : (e : ℕ) (t : Publication) (other : Option Publication) → is_above e (Some (tables.newer epoch_of t other)) ≡ true → is_above e other ≡ true
 above_others e t None above = refl
 above_others e t (Some o) above =
@@ -66,7 +66,7 @@ all_below net u e (Restart w ∷ past) above = all_below net u e past above
 all_below net u e (Visit w packet ∷ past) above = all_below net u e past above
 all_below net u e (End k ending ∷ past) above = all_below net u e past above
 
--- a table of e or a higher epoch does not count as below e
+-- a table of e or of a higher epoch is not counted among the tables below e
 pub below_stays : (net : Net) (u e w d : ℕ) (value : Value) (paths : List (Option (List ℕ))) (past : Chronicle) → ((w == u) ≡ true → nat_lt d e ≡ false)
     → dropped_below net u e (Publish w d value paths ∷ past) ≡ dropped_below net u e past
 below_stays net u e w d value paths past above =
@@ -78,17 +78,17 @@ below_stays net u e w d value paths past above =
 
 -- ---- what each step of a node drops: nothing, except by its table
 
--- what is sent drops nothing
+-- items that a node sends drop nothing
 pub dropped_sends : (net : Net) (v u : ℕ) (carried : Carried) (now : Chronicle) (gs : List Going) → dropped net v (happen now (sends carried u gs)) ≡ dropped net v now
 dropped_sends net v u carried now [] = refl
 dropped_sends net v u carried now (g ∷ gs) = dropped_sends net v u carried (Sent u g.to g.session g.item (carried g.to g.session) ∷ now) gs
 
--- nor do control messages
+-- control messages that a node sends drop nothing
 pub dropped_mails : (net : Net) (v u : ℕ) (ms : List (ℕ × Message)) (now : Chronicle) → dropped net v (happen now (mails u ms)) ≡ dropped net v now
 dropped_mails net v u [] now = refl
 dropped_mails net v u (m ∷ ms) now = dropped_mails net v u ms (Mail u m.0 m.1 ∷ now)
 
--- nor an entry, an opening, a cut, or a cut that is reported
+-- an entry drops nothing
 pub dropped_write : (rules : Rules) (net : Net) (carried : Carried) (u : ℕ) (k : Entry) (past : Chronicle) (v : ℕ) → dropped net v (write rules net carried u k past) ≡ dropped net v past
 unfolding write
 dropped_write rules net carried u k past v = dropped_sends net v u carried (Log u k ∷ past) (going_by rules net u (log_of u past) k)
@@ -133,7 +133,7 @@ reported_now rules net carried u e past =
     reported_mails net u e u (reporting rules net u e (kept_log net u past)) (happen (Raise u e ∷ past) (sends carried u (markers net u e (log_of u past))))
     ∙ (reported_sends net u e u carried (Raise u e ∷ past) (markers net u e (log_of u past)) ∙ rw (same_number u, same_number e) refl)
 
--- the others are as they were
+-- a cut of d at u leaves the reported cuts of u of all other epochs as they were
 pub reported_before : (rules : Rules) (net : Net) (carried : Carried) (u d e : ℕ) (past : Chronicle) → (d == e) ≡ false → reported_cut net u e (raise rules net carried u d past) ≡ reported_cut net u e past
 unfolding raise take_cut
 reported_before rules net carried u d e past off =
@@ -154,7 +154,7 @@ reported_raise rules net carried u d past v e =
 
 -- ---- the cut as a table is made of it
 
--- control messages leave it as it was
+-- control messages change no cut from which a table is made
 pub table_cut_mails : (net : Net) (v e u : ℕ) (ms : List (ℕ × Message)) (now : Chronicle) → table_cut net v e (happen now (mails u ms)) ≡ table_cut net v e now
 table_cut_mails net v e u [] now = refl
 table_cut_mails net v e u (m ∷ ms) now = table_cut_mails net v e u ms (Mail u m.0 m.1 ∷ now)

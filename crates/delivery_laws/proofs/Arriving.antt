@@ -34,7 +34,7 @@ end_is_quiet : (rules : Rules) (net : Net) (u k : ℕ) (end : Ending) (past : Ch
 end_is_quiet rules net u k end past = quiet_readings rules net u past (End k end ∷ past) refl (λ e. refl)
 
 module _ (rules : Rules) (net : Net) (past : Chronicle) (k : ℕ) where
-  -- a hop that delivers the packet, in its mode
+  -- a hop that by the rules delivers the packet delivers it, in the mode of the packet
   delivers_in : (at : Standing) (m : Mode) → at.packet.id ≡ k → m ≡ Transient
       → transient_hop net at.packet (sight rules net at.node past at.packet.prefix (up_links net at.node past)) ≡ Ended Delivered
       → IdleOrDelivers k past (Goes (publish rules net at.node past (by_mode m (hops_on_tables net at.node past at.packet (up_links net at.node past)) (hops_off_tables rules net at.node past at.packet (up_links net at.node past)))))
@@ -43,7 +43,7 @@ module _ (rules : Rules) (net : Net) (past : Chronicle) (k : ℕ) where
       ap (λ h. publish rules net at.node past (off_tables past at.packet h)) is
       ∙ (end_is_quiet rules net at.node at.packet.id Delivered past ∙ ap (λ n. End n Delivered ∷ past) number)
 
-  -- the cases of where the packet stands and whether its walk has ended
+  -- a hop does nothing or delivers the packet, whether the packet stands somewhere and whether its walk has ended
   delivers_hopped : (at : Option Standing) (end : Option Ending)
       → ((a : Standing) → at ≡ Some a → (a.packet.id ≡ k) × (a.packet.mode ≡ Transient) × (transient_hop net a.packet (sight rules net a.node past a.packet.prefix (up_links net a.node past)) ≡ Ended Delivered))
       → IdleOrDelivers k past (if is_stopped past (stands_at at end) then Idle Crashed else hopped rules net past at end)
@@ -57,7 +57,7 @@ module _ (rules : Rules) (net : Net) (past : Chronicle) (k : ℕ) where
         | false ↦ delivers_in at at.packet.mode of_it.0 of_it.1 of_it.2
       ]
 
-  -- the next hop
+  -- the next hop of the packet does nothing or delivers it
   delivers_next : ((a : Standing) → standing k past ≡ Some a → (a.packet.id ≡ k) × (a.packet.mode ≡ Transient) × (transient_hop net a.packet (sight rules net a.node past a.packet.prefix (up_links net a.node past)) ≡ Ended Delivered))
       → IdleOrDelivers k past (step rules net past (Hop k))
   unfolding step does
@@ -89,6 +89,6 @@ module _ (rules : Rules) (net : Net) (events : List Event) (valid : IsValid net)
         ended = λ end is. goes.ended end is may.enough may.connected;
       }
 
--- in every run
+-- in every run, a deflected packet arrives
 pub deflection_delivers : (rules : Rules) (net : Net) (events : List Event) → IsValid net → DeflectionDelivers rules net (run rules net events)
 deflection_delivers rules net events valid = record { arrives = λ deflects k at may. arrives rules net events valid deflects k at may }

@@ -39,7 +39,7 @@ use Rattle.delivery_laws.proofs.Times.{order_is_whole}
 
 -- ---- links and owners of a run
 
--- a neighbour whose link is up
+-- an end of a link is among the neighbours with an up link exactly if the link is up
 up_is : (net : Net) (u : ℕ) (past : Chronicle) (w : ℕ) → has (neighbours net u) w ≡ true → has (up_links net u past) w ≡ is_up (link u w past)
 unfolding up_links
 up_is net u past w near = has_left (λ x. is_up (link u x past)) (neighbours net u) w near
@@ -56,7 +56,7 @@ module _ (net : Net) (valid : IsValid net) where
       let back : has (neighbours net w) u ≡ true = neighbours_linked net w u valid ∙ (linked_sym net w u ∙ (sym (neighbours_linked net u w valid) ∙ near)) in
       up_is net w past u back ∙ (ap is_up (both_ends w u past) ∙ (sym (up_is net u past w near) ∙ up))
 
-  -- so they are links between nodes
+  -- the links that are up are links between nodes of the network, in both directions
   pub is_terrain : (p : ℕ) (past : Chronicle) → IsTerrain net (terrain_now net p past)
   is_terrain p past = record { both_ways = λ u w up. up_back u w past up; of_nodes = λ u w up. up_are_nodes net u past w up }
 
@@ -76,17 +76,17 @@ module _ (net : Net) (valid : IsValid net) where
 
 -- ---- a packet that is deflected
 
--- it is on a tour
+-- the packet is on a tour
 pub record OnTour (net : Net) (on : Terrain) (at : Standing) : Type 0 where
   pub from : ℕ
   pub tour : IsTour net on net.hops (trip from at.node at.packet)
 
--- it stands where it entered, which is not a node of the network
+-- the packet stands where it entered, outside the network, and has the whole hop limit left
 pub record Outside (net : Net) (at : Standing) : Type 0 where
   pub outside : has net.nodes at.node ≡ false
   pub whole : at.packet.budget ≡ net.hops
 
--- the one or the other
+-- the packet is on a tour, or stands outside the network
 abbrev pub IsDeflected : Net → Terrain → Standing → Type 0
 IsDeflected net on at = OnTour net on at ⊎ Outside net at
 
@@ -94,11 +94,11 @@ IsDeflected net on at = OnTour net on at ⊎ Outside net at
 abbrev pub EndsSo : Net → Terrain → Standing → Ending → Type 0
 EndsSo net on at end = 2 * (length net.nodes - 1) ≤ net.hops → Connects on at.node → end ≡ Delivered
 
--- a node, and a packet there
+-- the standing of a packet at a node
 abbrev pub stand : ℕ → Packet → Standing
 stand u packet = record { node = u; packet = packet }
 
--- a packet with the whole hop limit that has been at just one node
+-- a packet that has been at just one node, and has the whole hop limit, is deflected
 pub begins_at : (net : Net) (on : Terrain) (u : ℕ) (packet : Packet) → packet.budget ≡ net.hops → packet.visited ≡ bit net u → packet.trail ≡ [] → IsDeflected net on (stand u packet)
 begins_at net on u packet whole alone none =
     (elim (has net.nodes u) as (λ t. has net.nodes u ≡ t → IsDeflected net on (stand u packet)) [
@@ -107,15 +107,15 @@ begins_at net on u packet whole alone none =
     ]) refl
 
 module _ (rules : Rules) (net : Net) (valid : IsValid net) (past : Chronicle) (at : Standing) where
-  -- what the node sees
+  -- what the node of the packet sees
   abbrev view : Sight
   view = sight rules net at.node past at.packet.prefix (up_links net at.node past)
 
-  -- the links that are up, and the owners
+  -- the links that are up now, and the owners
   abbrev here : Terrain
   here = terrain_now net at.packet.prefix past
 
-  -- a move
+  -- a packet that is deflected still is, after a move
   pub moves_on : IsDeflected net here at → (w : ℕ) (moved : Packet) → hop_under scheme.Deflect net at.packet view ≡ Next w moved → IsDeflected net here (stand w moved)
   moves_on (inl on) w moved is =
       inl (record {
@@ -125,17 +125,17 @@ module _ (rules : Rules) (net : Net) (valid : IsValid net) (past : Chronicle) (a
   moves_on (inr off) w moved is =
       absurd (no_link net valid at.node past w off.outside (is_move scheme.Deflect net at.packet moved view w is).link_is_up)
 
-  -- without links only the node itself is reached
+  -- a node outside the network is connected to an owner only if it is one
   owner_here : Outside net at → Connects here at.node → view.owns ≡ true
   owner_here off (owner, owns_it, ([], same)) = subst (λ x. here.owns x ≡ true) (sym same) owns_it
   owner_here off (owner, owns_it, (w ∷ nodes, lead)) = absurd (no_link net valid at.node past w off.outside lead.0)
 
-  -- at an owner a hop delivers the packet
+  -- at an owner, a hop delivers the packet
   owner_delivers : view.owns ≡ true → hop_under scheme.Deflect net at.packet view ≡ Ended Delivered
   unfolding hop_under
   owner_delivers own = ap (λ o. unless_ended (if o then Some Delivered else if at.packet.budget == 0 then Some Expired else None) (by_scheme scheme.Deflect net at.packet view)) own
 
-  -- an end
+  -- an end of a deflected packet is a delivery, where an owner can be reached and there are enough moves
   pub ends_so : IsDeflected net here at → (end : Ending) → hop_under scheme.Deflect net at.packet view ≡ Ended end → EndsSo net here at end
   ends_so (inl on) end is enough way =
       (ends_well net here net.hops on.from at.packet view (is_terrain net valid at.packet.prefix past) (shows net valid rules at.node at.packet.prefix past) valid.few_nodes on.tour end is).delivered enough way
@@ -151,7 +151,7 @@ module _ (rules : Rules) (net : Net) (valid : IsValid net) (past : Chronicle) (a
       is_delivered net here net.hops on.from at.packet view (is_terrain net valid at.packet.prefix past) (shows net valid rules at.node at.packet.prefix past) valid.few_nodes on.tour (omega (arith, spent, many)) way
   delivers (inr off) many way = owner_delivers (owner_here off way)
 
-  -- it has at least the moves left that remain after two for each other node
+  -- a deflected packet has at least the moves left that remain after two for each other node
   pub few_spent : IsDeflected net here at → net.hops ≤ at.packet.budget + 2 * (length net.nodes - 1)
   few_spent (inl on) =
       let few = few_moves net here net.hops (trip on.from at.node at.packet) on.tour in

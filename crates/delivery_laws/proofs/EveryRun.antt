@@ -36,22 +36,23 @@ use Rattle.delivery_laws.proofs.Deflecting.{IsDeflected, EndsSo, stand, begins_a
 use Rattle.delivery_laws.proofs.Ended.{NoneEnded, after_event}
 use Rattle.delivery_laws.proofs.Staying.{one_fact, stayed}
 
--- packet k is deflected by the rules, over the present links and owners; if its walk has ended, the same held then
+-- packet k is deflected by the rules, over the present links and owners; if its walk has ended, its end is as the rules
+-- say
 pub record Goes (net : Net) (past : Chronicle) (k : ℕ) (at : Standing) : Type 0 where
   pub deflected : IsDeflected net (terrain_now net at.packet.prefix past) at
   pub ended : (end : Ending) → ending k past ≡ Some end → EndsSo net (terrain_now net at.packet.prefix past) at end
 
--- this holds of each packet off the tables while links and owners stay the same
+-- `Goes` holds of each packet off the tables while links and owners stay as they were when it left the tables
 abbrev pub AllGo : Net → Chronicle → Type 0
 AllGo net past = (k : ℕ) (at : Standing) → standing k past ≡ Some at → at.packet.mode ≡ Transient → stays k at.packet.prefix past ≡ true → Goes net past k at
 
--- a packet off the tables that stands there is off them
+-- a packet that stands there off the tables is off the tables
 off_there : (k : ℕ) (past : Chronicle) (at : Standing) → standing k past ≡ Some at → at.packet.mode ≡ Transient → is_off (standing k past) ≡ true
 off_there k past at is off = ap is_off is ∙ ap is_transient off
 
 module _ (rules : Rules) (net : Net) (valid : IsValid net) (deflects : net.scheme ≡ scheme.Deflect) where
   module _ (past : Chronicle) (unended : NoneEnded past) (old : AllGo net past) where
-    -- a visit of a packet that had not ended
+    -- `AllGo` is kept by a visit of a packet whose walk had not ended
     on_visit : (w : ℕ) (moved : Packet) → ending moved.id past ≡ None
         → (moved.mode ≡ Transient → stays moved.id moved.prefix (Visit w moved ∷ past) ≡ true → IsDeflected net (terrain_now net moved.prefix past) (stand w moved))
         → AllGo net (Visit w moved ∷ past)
@@ -76,7 +77,7 @@ module _ (rules : Rules) (net : Net) (valid : IsValid net) (deflects : net.schem
               record { deflected = was.deflected; ended = was.ended }
         ]) refl is
 
-    -- an end of the walk of a packet
+    -- `AllGo` is kept by the end of the walk of a packet
     on_end : (number : ℕ) (end : Ending)
         → ((at : Standing) → standing number past ≡ Some at → at.packet.mode ≡ Transient → stays number at.packet.prefix past ≡ true → EndsSo net (terrain_now net at.packet.prefix past) at end)
         → AllGo net (End number end ∷ past)
@@ -97,21 +98,21 @@ module _ (rules : Rules) (net : Net) (valid : IsValid net) (deflects : net.schem
               ]) refl ends;
         }
 
-    -- a packet that leaves the tables at u, or enters off them
+    -- `AllGo` is kept when a packet leaves the tables, or enters off them
     on_start : (u : ℕ) (packet : Packet) → ending packet.id past ≡ None → (packet.mode ≡ Transient → (packet.budget ≡ net.hops) × (packet.visited ≡ bit net u) × (packet.trail ≡ []))
         → AllGo net (Visit u packet ∷ past)
     on_start u packet none fresh =
         on_visit u packet none (λ mode same. let new = fresh mode in begins_at net (terrain_now net packet.prefix past) u packet new.0 new.1 new.2)
 
-    -- a packet that stands somewhere, by the number that it carries
+    -- a packet that stands somewhere also stands there by the number that it carries
     number_of : (k : ℕ) (at : Standing) → standing k past ≡ Some at → standing at.packet.id past ≡ Some at
     number_of k at is = ap (λ n. standing n past) (stands k past at is).number ∙ is
 
-    -- it has not ended, by that number
+    -- a packet whose walk has not ended has not ended by the number that it carries
     unended_by : (k : ℕ) (at : Standing) → standing k past ≡ Some at → ending k past ≡ None → ending at.packet.id past ≡ None
     unended_by k at is none = ap (λ n. ending n past) (stands k past at is).number ∙ none
 
-    -- a hop on the tables
+    -- `AllGo` is kept by a hop on the tables
     on_stable : (k : ℕ) (at : Standing) (s : StableStep) → standing k past ≡ Some at → ending k past ≡ None → at.packet.mode ≡ Stable → AllGo net (on_tables net at.node past at.packet s)
     unfolding turned
     on_stable k at Arrived is none on =
@@ -122,7 +123,7 @@ module _ (rules : Rules) (net : Net) (valid : IsValid net) (deflects : net.schem
         on_start at.node (turned net at.node at.packet) (unended_by k at is none)
         (λ mode. (refl, ap (λ s. visited_at_turn s net at.node at.packet) deflects, refl))
 
-    -- a hop off the tables
+    -- `AllGo` is kept by a hop off the tables
     on_transient : (k : ℕ) (at : Standing) (h : Hop) → standing k past ≡ Some at → ending k past ≡ None → at.packet.mode ≡ Transient
         → hop_under scheme.Deflect net at.packet (sight rules net at.node past at.packet.prefix (up_links net at.node past)) ≡ h
         → AllGo net (off_tables past at.packet h)
@@ -143,7 +144,7 @@ module _ (rules : Rules) (net : Net) (valid : IsValid net) (deflects : net.schem
         let was = old at.packet.id at (number_of k at is) off kept in
         subst (λ (a : Standing). EndsSo net (terrain_now net a.packet.prefix past) a end) here (ends_so rules net valid past at was.deflected end does))
 
-    -- a hop, in the mode of the packet
+    -- `AllGo` is kept by a hop, in the mode of the packet
     on_hop : (k : ℕ) (at : Standing) (m : Mode) → standing k past ≡ Some at → ending k past ≡ None → at.packet.mode ≡ m
         → AllGo net (by_mode m (hops_on_tables net at.node past at.packet (up_links net at.node past)) (hops_off_tables rules net at.node past at.packet (up_links net at.node past)))
     on_hop k at Stable is none mode = on_stable k at (stable_step (kept_path at.node at.packet.epoch at.packet.prefix past) (up_links net at.node past)) is none mode
@@ -151,7 +152,7 @@ module _ (rules : Rules) (net : Net) (valid : IsValid net) (deflects : net.schem
         let view = sight rules net at.node past at.packet.prefix (up_links net at.node past) in
         on_transient k at (transient_hop net at.packet view) is none mode (sym (ap (λ s. hop_under s net at.packet view) deflects))
 
-    -- an event that is of no packet
+    -- `AllGo` is kept by an event that is of no packet
     unmoved : (e : Event) → (IsOfPackets e → ⊥) → SameWalks past (after rules net past e) → AllGo net (after rules net past e)
     unmoved e apart walks k at is off same =
         let there : standing k past ≡ Some at = sym (walks.same_standing k) ∙ is in
@@ -162,7 +163,7 @@ module _ (rules : Rules) (net : Net) (valid : IsValid net) (deflects : net.schem
           ended = λ end ends. subst (λ (t : Terrain). EndsSo net t at end) (sym back.1) (was.ended end (sym (walks.same_ending k) ∙ ends));
         }
 
-    -- each event keeps it
+    -- `AllGo` is kept by each event
     after_all : (e : Event) → ForPackets rules net past e (after rules net past e) → AllGo net (after rules net past e)
     unfolding injects forwards stamped
     after_all (event.Inject k u p) (inl same) = subst (AllGo net) (sym same) old
@@ -185,14 +186,14 @@ module _ (rules : Rules) (net : Net) (valid : IsValid net) (deflects : net.schem
     after_all (event.Crash u) same = unmoved (event.Crash u) (λ t. t) same
     after_all (event.Restart u) same = unmoved (event.Restart u) (λ t. t) same
 
-  -- so do all events, one after the other
+  -- `AllGo` is kept by a list of events
   along : (events : List Event) (past : Chronicle) → NoneEnded past → AllGo net past → AllGo net (fold (after rules net) past events)
   along [] past unended old = old
   along (e ∷ events) past unended old =
       let does = for_packets rules net past e in
       along events (after rules net past e) (after_event rules net past unended e (after rules net past e) does) (after_all past unended old e does)
 
-  -- so it is in every run
+  -- `AllGo` holds in every run
   pub all_go : (events : List Event) → AllGo net (run rules net events)
   unfolding run
   all_go events = along events [] (λ k none. refl) (λ k at is. absurd (cc is))

@@ -41,7 +41,7 @@ packet = record { id = 1; prefix = 0; epoch = 0; mode = Transient; budget = 6; r
 abbrev there : Standing
 there = record { node = 2; packet = packet }
 
--- it may arrive: links that are up lead by 1 to 4
+-- the packet may arrive: links that are up lead by 1 to 4
 owns_it : owns (reads (log_of 4 (after_these entered))) 0 ≡ true
 unfolding all
 owns_it = refl
@@ -71,7 +71,7 @@ may_arrive = record {
   connected = (4, owns_it, (1 ∷ 4 ∷ [], (first_link, (second_link, refl))));
 }
 
--- and it does
+-- the packet arrives
 abbrev walked : Chronicle → List ℕ × Option Ending
 walked past = (nodes_of (reverse (walk 1 past)), ending 1 past)
 
@@ -94,7 +94,7 @@ goes_since : stays 1 0 (after_these (entered ++ Hop 1 ∷ Withdraw 4 0 ∷ Hop 1
 unfolding all
 goes_since = refl
 
--- not: an owner of another prefix, an update, a crash, or anything before the packet
+-- these are no changes: an owner of another prefix, an update, a crash, and all that came before the packet
 others_do_not : stays 1 0 (after_these (entered ++ Originate 3 1 ∷ Deliver 4 1 ∷ Crash 3 ∷ Hop 1 ∷ [])) ≡ true
 unfolding all
 others_do_not = refl

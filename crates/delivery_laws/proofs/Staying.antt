@@ -27,7 +27,7 @@ same_owner Originate before off = cc
 same_owner Withdraw before off = cc
 same_owner other before off = refl
 
--- so does one that does not concern the prefix
+-- an entry that does not concern the prefix, or makes no owner, leaves its ownership as it was
 same_owns : (p : ℕ) (k : Entry) (h : List Entry) → (concerns p k.read.scope && makes_owner k.read.cause) ≡ false → owns (reads (k ∷ h)) p ≡ owns (reads h) p
 same_owns p k h off =
     (elim (concerns p k.read.scope) as (λ t. (t && makes_owner k.read.cause) ≡ false → (if t then owns_by k.read.cause (owns (reads h) p) else owns (reads h) p) ≡ owns (reads h) p) [
@@ -35,7 +35,7 @@ same_owns p k h off =
       | false ↦ λ e. refl
     ]) off
 
--- an entry of any node
+-- such an entry of any node leaves the ownership at every node as it was
 same_owns_at : (p node : ℕ) (k : Entry) (past : Chronicle) → (concerns p k.read.scope && makes_owner k.read.cause) ≡ false
     → (u : ℕ) → owns (reads (log_of u (Log node k ∷ past))) p ≡ owns (reads (log_of u past)) p
 same_owns_at p node k past off u =
@@ -53,17 +53,18 @@ same_terrain net p (Fail a b) past off = cc
 same_terrain net p (Restore a b) past off = cc
 same_terrain net p other past off = refl
 
--- since the packet left the tables nothing has changed, neither to now nor to an earlier moment; and links and owners
--- are as they were then
+-- the packet stands where it stood; and if links and owners are now as when it left the tables, they were so then, and
+-- are the same
 pub record Stayed (net : Net) (k p : ℕ) (past now : Chronicle) : Type 0 where
   pub same_standing : standing k now ≡ standing k past
   pub back : is_off (standing k past) ≡ true → stays k p now ≡ true → (stays k p past ≡ true) × (terrain_now net p now ≡ terrain_now net p past)
 
--- at the start
+-- between a chronicle and itself nothing has changed
 stayed_now : (net : Net) (k p : ℕ) (past : Chronicle) → Stayed net k p past past
 stayed_now net k p past = record { same_standing = refl; back = λ off same. (same, refl) }
 
--- one more fact, after which the packet stands where it stood
+-- if nothing has changed since the packet left the tables, with one more fact, nothing had changed before that fact,
+-- and links and owners are the same
 pub one_fact : (net : Net) (k p : ℕ) (f : Fact) (past : Chronicle) → is_off (standing k past) ≡ true → stays k p (f ∷ past) ≡ true
     → (stays k p past ≡ true) × (terrain_now net p (f ∷ past) ≡ terrain_now net p past)
 one_fact net k p f past off same =
@@ -84,7 +85,7 @@ stayed_more net k p f past now tells old = record {
       (earlier.0, one.1 ∙ earlier.1);
 }
 
--- an event without a packet
+-- an event without a packet leaves this as it is
 pub stayed : (rules : Rules) (net : Net) (k p : ℕ) (past : Chronicle) (e : Event) → (IsOfPackets e → ⊥) → Stayed net k p past (after rules net past e)
 stayed rules net k p past e apart =
     after_where rules net (Stayed net k p past) ⊥

@@ -70,7 +70,7 @@ module _ (rules : Rules) (net : Net) (valid : IsValid net) (past : Chronicle) (p
   all_orders [] = tt
   all_orders (u ∷ ns) = (order_is_whole net u (reads (log_of u past)) p rules valid, all_orders ns)
 
-  -- it is a network that does not change
+  -- the network of the present state is one that does not change
   pub is_still : IsStill net (still_now rules net past p)
   unfolding still_now
   is_still = record {
@@ -103,7 +103,7 @@ module _ (rules : Rules) (net : Net) (valid : IsValid net) (past : Chronicle) (p
         | false ↦ λ e. elsewhere e rest
       ]) refl
     where
-      -- the list with the link in front
+      -- the ends of the links that are up, with those of this link in front if t is true
       front : Bool → List (ℕ × ℕ)
       front t = map ends (if t then l ∷ filter (λ (m : Link). is_up (link m.a m.b past)) ls else filter (λ (m : Link). is_up (link m.a m.b past)) ls)
 
@@ -124,7 +124,7 @@ module _ (rules : Rules) (net : Net) (valid : IsValid net) (past : Chronicle) (p
             | false ↦ rest
           ]
 
-  -- to a neighbour, where the link to it is up
+  -- a node and its neighbour are joined exactly if the link between them is up
   pub joined_near : (u w : ℕ) → has (neighbours net u) w ≡ true → stills.joins (still_now rules net past p) u w ≡ is_up (link u w past)
   unfolding still_now
   joined_near u w near = joined_is net.links u w ∙ ap (λ t. t && is_up (link u w past)) (sym (neighbours_linked net u w valid) ∙ near)
@@ -139,7 +139,7 @@ module _ (rules : Rules) (net : Net) (valid : IsValid net) (past : Chronicle) (p
       ap (λ t. if t then x ∷ filter f xs else filter f xs) (same x (or_first (x == x) (has xs x) (same_refl x)))
       ∙ ap (λ l. if g x then x ∷ l else l) rest
 
-  -- beside each node stands what is made of it
+  -- the list beside a node is the one that is made of the node
   beside_made : (f : ℕ → List ℕ) (ns : List ℕ) (u : ℕ) → has ns u ≡ true → order_beside ns (map f ns) u ≡ f u
   beside_made f [] u there = cc
   beside_made f (x ∷ ns) u there =
@@ -148,7 +148,7 @@ module _ (rules : Rules) (net : Net) (valid : IsValid net) (past : Chronicle) (p
         | false ↦ λ e more. beside_made f ns u more
       ]) refl there
 
-  -- a sight from its parts
+  -- the sight with these parts
   abbrev seen : ℕ → Bool → List ℕ → List ℕ → Option (List ℕ) → List (List ℕ) → Sight
   seen u own tried up stable backups = record { at = u; owns = own; order = tried; up = up; stable = stable; backups = backups }
 

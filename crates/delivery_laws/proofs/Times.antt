@@ -34,7 +34,7 @@ has_times (x ∷ xs) w is =
       | false ↦ λ e. let more = has_times xs w e in omega (arith, more)
     ]) is
 
--- and not if it never occurs
+-- a number that is no member of a list never occurs in it
 has_never : (xs : List ℕ) (w : ℕ) → has xs w ≡ false → times w xs ≡ 0
 unfolding one times
 has_never [] w is = refl
@@ -68,7 +68,7 @@ differ_once (x ∷ xs) apart w =
       | false ↦ λ e. omega (arith, rest)
     ]) refl
 
--- it is itself
+-- a number occurs once as itself
 one_itself : (x : ℕ) → one x x ≡ 1
 unfolding one
 one_itself x = ap (λ t. if t then 1 else 0) (same_refl x)
@@ -89,7 +89,7 @@ once_differ (x ∷ xs) once =
     ]) refl))
     (once_differ xs (λ w. let both = once w in omega (arith, both)))
 
--- one list behind the other
+-- in a concatenation a number occurs as often as in both lists together
 times_append : (xs ys : List ℕ) (w : ℕ) → times w (xs ++ ys) ≡ times w xs + times w ys
 unfolding times
 times_append [] ys w = omega arith
@@ -99,7 +99,7 @@ times_append (x ∷ xs) ys w = let rest = times_append xs ys w in omega (arith, 
 abbrev nbrs : List Choice → List ℕ
 nbrs cs = map (λ (c : Choice). c.nbr) cs
 
--- after one more is put in, it occurs once more
+-- after a choice is put in, its neighbour occurs once more
 times_put : (before : Ranked → Ranked → Bool) (c : Choice) (ds : List Choice) (w : ℕ) → times w (nbrs (put_choice before c ds)) ≡ one c.nbr w + times w (nbrs ds)
 unfolding times
 times_put before c [] w = refl
@@ -109,7 +109,7 @@ times_put before c (d ∷ ds) w =
       | false ↦ let rest = times_put before c ds w in omega (arith, rest)
     ]
 
--- all that were put in are there, with those that were there before
+-- after a list of choices is put in, each neighbour occurs as often as in both lists together
 times_sorted : (before : Ranked → Ranked → Bool) (cs sorted : List Choice) (w : ℕ) → times w (nbrs (fold (λ ds c. put_choice before c ds) sorted cs)) ≡ times w (nbrs sorted) + times w (nbrs cs)
 unfolding times
 times_sorted before [] sorted w = omega arith
@@ -131,7 +131,7 @@ module _ (net : Net) (u : ℕ) (h : History) (p : ℕ) where
       by_front rest None = omega (arith, rest)
       by_front rest (Some path) = omega (arith, rest)
 
-  -- so each is in the order as often as it is a neighbour
+  -- each neighbour is in the order as often as it is among the neighbours
   times_order : (rules : Rules) (w : ℕ) → times w (order rules net u h p) ≡ times w (neighbours net u)
   unfolding order by_rank choices times
   times_order rules w =
@@ -140,7 +140,7 @@ module _ (net : Net) (u : ℕ) (h : History) (p : ℕ) where
       let both = times_append (nbrs (by_rank rules net u h p)) (filter (has_none u h p) (neighbours net u)) w in
       omega (arith, sorted, parts, both)
 
-  -- that is, once
+  -- the order has each neighbour once
   pub order_is_whole : (rules : Rules) → IsValid net → IsOrderOf net u (order rules net u h p)
   order_is_whole rules valid = record {
     all = λ w. same_has (order rules net u h p) (neighbours net u) w (times_order rules w);

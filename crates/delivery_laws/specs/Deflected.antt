@@ -15,14 +15,16 @@ use Rattle.walk_laws.specs.Readings.{moves}
 use Rattle.deflect_delivery.specs.Terrain.{Connects}
 use Rattle.delivery_laws.specs.Unchanged.{stays, terrain_now}
 
--- packet k stands there, off the tables; since it left them no link failed or was restored, and no node became an owner
--- of its prefix or gave that up; it may make two moves for each other node; and links that are up lead from where it is
--- to an owner
+-- packet k stands there, off the tables, and may arrive
 pub record MayArrive (net : Net) (past : Chronicle) (k : ℕ) (at : Standing) : Type 0 where
   pub stands : standing k past ≡ Some at
   pub off : at.packet.mode ≡ Transient
+  -- since the packet left the tables no link failed or was restored, and no node became an owner of its prefix or
+  -- stopped being one
   pub unchanged : stays k at.packet.prefix past ≡ true
+  -- the hop limit is at least two moves for each other node
   pub enough : 2 * (length net.nodes - 1) ≤ net.hops
+  -- links that are up lead from the node of the packet to an owner
   pub connected : Connects (terrain_now net at.packet.prefix past) at.node
 
 -- the step does nothing, or ends the walk of packet k as delivered and does nothing else
@@ -30,13 +32,15 @@ abbrev pub IdleOrDelivers : ℕ → Chronicle → Step → Type 0
 IdleOrDelivers k past (Idle reason) = Unit {0}
 IdleOrDelivers k past (Goes now) = now ≡ End k Delivered ∷ past
 
--- at most two moves off the tables for each other node; after that many, the next hop that does something delivers the
--- packet; and if its walk has ended, it was delivered
+-- packet k arrives, and its next hop is this step
 pub record Arrives (net : Net) (past : Chronicle) (k : ℕ) (hop : Step) : Type 0 where
+  -- the packet made at most two moves off the tables for each other node
   pub few : moves (walk k past) ≤ 2 * (length net.nodes - 1)
+  -- after that many, its next hop does nothing or delivers it
   pub last : moves (walk k past) ≡ 2 * (length net.nodes - 1) → IdleOrDelivers k past hop
+  -- if its walk has ended, it was delivered
   pub ended : (end : Ending) → ending k past ≡ Some end → end ≡ Delivered
 
--- this holds of each deflected packet
+-- each deflected packet that may arrive does
 pub record DeflectionDelivers (rules : Rules) (net : Net) (past : Chronicle) : Type 0 where
   pub arrives : net.scheme ≡ scheme.Deflect → (k : ℕ) (at : Standing) → MayArrive net past k at → Arrives net past k (step rules net past (Hop k))

@@ -85,7 +85,7 @@ module _ (rules : Rules) (net : Net) (u w : ℕ) where
     pub known : has (places net) prefix ≡ true
     pub waits : WaitsFor rules net u w s h prefix t
 
-  -- it was so in an older part, if no newer entry lists t
+  -- what waits for t in a log waited in its older part, if no newer entry lists t
   pub were_waiting : (log part : List Entry) (o : Older log part) (s : ℕ) (t : Trigger) → Fits log → (NewerLists log part o t → ⊥) → Waits log s t → Waits part s t
   were_waiting log part o s t f new x = record { prefix = x.prefix; known = x.known; waits = was_waiting rules net u w s log part o x.prefix t f new x.waits }
 
@@ -186,7 +186,7 @@ module _ (rules : Rules) (net : Net) (u w : ℕ) where
 
   -- ---- rows of what is held back
 
-  -- one that lists t
+  -- a row of what is held back that lists t is one that waits for t
   row_waits : (h : List Entry) (session : Option ℕ) (row : Pending) (t : Trigger) → held (reads h) w ≡ session → Among row (pending_to rules net u h w session) → Among t row.triggers → (w ≡ row.to) × Waits h row.session t
   row_waits h None row t now a b = absurd a
   row_waits h (Some s) row t now a b =
@@ -202,7 +202,7 @@ module _ (rules : Rules) (net : Net) (u w : ℕ) where
         },
       )
 
-  -- and the converse
+  -- what waits for t has a row of what is held back
   waiting_row : (h : List Entry) (s : ℕ) (t : Trigger) → has (neighbours net u) w ≡ true → (x : Waits h s t) → Among (pending_row (pending rules net u h w) w s x.prefix) (pending_rows rules net u h)
   waiting_row h s t near x = held_rows rules net u h w s x.prefix near x.known x.waits.holds (some_member (pending rules net u h w x.prefix) t x.waits.listed)
 
@@ -236,11 +236,11 @@ pub record Opens (from to : Report) (s : ℕ) (t : Trigger) : Type 0 where
   pub same : carrier.session ≡ s
   pub lists : Among t carrier.triggers
 
--- a missing item
+-- a missing item that lists t opens something for t
 pub item_opens : (from to : Report) (i : Sent) (t : Trigger) → Among i (items_of from) → missing from to i ≡ true → Among t i.triggers → Opens from to i.session t
 item_opens from to i t a lacks b = record { carrier = of_item i; is_open = missing_open from to i a lacks; same = refl; lists = b }
 
--- an update that is held back
+-- an update that is held back for t opens something for t
 pub waits_opens : (rules : Rules) (net : Net) (v u e : ℕ) (b a : List Entry) (s : ℕ) (t : Trigger) → has (neighbours net v) u ≡ true → Waits rules net v u b s t → Opens (report_of rules net v e b) (report_of rules net u e a) s t
 unfolding report_of
 waits_opens rules net v u e b a s t near x = record {

@@ -30,7 +30,7 @@ use Rattle.rest_laws.proofs.ValueClosed.{of_filter, OneOf, ByItem, ByRow, of_ope
 use Rattle.drop_laws.proofs.Later.{from_sent}
 use Rattle.drop_laws.proofs.Contained.{of_row}
 
--- a list with one at least is not empty
+-- a list with a trigger is not empty
 has_some : (ts : List Trigger) → is_some_trigger ts ≡ true → ts ≢ []
 has_some [] e none = absurd (cc e)
 has_some (t ∷ ts) e none = cc none
@@ -74,7 +74,7 @@ module _ (rules : Rules) (net : Net) (u w : ℕ) where
       subst (λ (r : Pending). r.triggers ≢ []) one.2 (has_some (pending rules net u h w one.0) (of_filter (is_pending rules net u h w) (places net) one.0 one.1).1)
 
 module _ (rules : Rules) (net : Net) (u : ℕ) where
-  -- an item of an entry lists something
+  -- each item of an entry lists a trigger
   sent_some : (h : List Entry) (k : Entry) (i : Sent) → Fits (k ∷ h) → ListsFor k.read.scope k.triggers → Among i (sent_by rules net u h k) → i.triggers ≢ []
   unfolding sent_by
   sent_some h k i f l a =
@@ -84,14 +84,14 @@ module _ (rules : Rules) (net : Net) (u : ℕ) where
       (λ (x : Among i (close_sent (making rules net u h k) to.0 (ready (reads h) to.0))). closes_some rules net u to.0 h k (ready (reads h) to.0) i f l x)
       (in_either i (updates_sent (making rules net u h k) to.0 (held (k.read ∷ reads h) to.0)) (close_sent (making rules net u h k) to.0 (ready (reads h) to.0)) to.2)
 
-  -- so does a row of what is held back
+  -- each row of what is held back lists a trigger
   rows_some : (h : List Entry) (row : Pending) → Among row (pending_rows rules net u h) → row.triggers ≢ []
   unfolding pending_rows
   rows_some h row a =
       let one = of_flat (λ w. pending_to rules net u h w (held (reads h) w)) (neighbours net u) row a in
       row_some rules net u one.0 h (held (reads h) one.0) row one.2
 
-  -- so does all that is open
+  -- each open carrier lists a trigger
   pub open_some : (e : ℕ) (h : List Entry) (to : Report) (c : Carrier) → Fits h → AllInherit u h → Among c (open_to (report_of rules net u e h) to) → c.triggers ≢ []
   unfolding report_of
   open_some e h to c f inherits a = by (of_open (report_of rules net u e h) to c a)

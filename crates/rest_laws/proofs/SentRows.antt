@@ -42,17 +42,17 @@ abbrev pub AllSent : List Row → ℕ → ℕ → ℕ → List Update → Type 0
 AllSent rows w s n [] = Unit {0}
 AllSent rows w s n (x ∷ xs) = SendsRow rows (item w s n x.triggers) × AllSent rows w s (suc n) xs
 
--- they do so in more rows
+-- updates that stand in the rows stand in the rows with more behind them
 sent_more : (rows more : List Row) (w s n : ℕ) (xs : List Update) → AllSent rows w s n xs → AllSent (rows ++ more) w s n xs
 sent_more rows more w s n [] a = tt
 sent_more rows more w s n (x ∷ xs) a = (row_later rows more (item w s n x.triggers) a.0, sent_more rows more w s (suc n) xs a.1)
 
--- updates and those after them
+-- if two lists of updates stand in the rows, the second numbered on from the first, their concatenation does
 sent_append : (rows : List Row) (w s n : ℕ) (xs ys : List Update) → AllSent rows w s n xs → AllSent rows w s (n + length xs) ys → AllSent rows w s n (xs ++ ys)
 sent_append rows w s n [] ys a b = subst (λ m. AllSent rows w s m ys) (omega arith) b
 sent_append rows w s n (x ∷ xs) ys a b = (a.0, sent_append rows w s (suc n) xs ys a.1 (subst (λ m. AllSent rows w s m ys) (omega arith) b))
 
--- updates all of whose items one row lists
+-- updates stand in the rows, if one row lists all their items
 sent_here : (rows : List Row) (r : Row) (w s n : ℕ) (xs : List Update) → Among r rows → ((i : Sent) → Among i (sent_from w s n xs) → Among i r.sent) → AllSent rows w s n xs
 sent_here rows r w s n [] a each = tt
 sent_here rows r w s n (x ∷ xs) a each = ((r, a, each (item w s n x.triggers) (inl refl)), sent_here rows r w s (suc n) xs a (λ i b. each i (inr b)))
@@ -67,7 +67,7 @@ in_filtered test [] n a e = absurd a
 in_filtered test (x ∷ xs) n (inl q) e = rw (subst (λ z. test z ≡ true) (sym q) e) (inl q)
 in_filtered test (x ∷ xs) n (inr a) e = elim (test x) as (λ b. Among n (cond b (x ∷ filter test xs) (filter test xs))) [ true ↦ inr (in_filtered test xs n a e) | false ↦ in_filtered test xs n a e ]
 
--- a row and a later one
+-- of two rows that share a prefix, the one that stands before the other precedes it
 precedes : (xs : List Row) (next : Row) (later : List Row) (r : Row) (s t : Trigger) → Among r xs → Among s r.triggers → Among t next.triggers → shares r.scope next.scope ≡ true → Precedes (xs ++ next ∷ later) s t
 precedes [] next later r s t a x y e = absurd a
 precedes (z ∷ xs) next later r s t (inl q) x y e =
@@ -89,7 +89,7 @@ module _ (rules : Rules) (net : Net) (u : ℕ) where
   unfolding sent_by
   in_row h k w i near a = in_flat (sent_to rules net u h k) (neighbours net u) w i (has_among (neighbours net u) w near) a
 
-  -- its updates do
+  -- each update that an entry sends is in the row of the entry
   update_row : (h : List Entry) (k : Entry) (w s : ℕ) (i : Sent) → has (neighbours net u) w ≡ true → held (k.read ∷ reads h) w ≡ Some s
       → Among i (sent_from w s (next_number rules net u h w s) (news rules net u h k w)) → Among i (entry_row rules net u h k).sent
   update_row h k w s i near holds a =
@@ -171,7 +171,7 @@ module _ (rules : Rules) (net : Net) (u : ℕ) where
       let row = entry_row rules net u h k in
       (row ∷ more.0, sym (append_assoc (entry_rows rules net u h) (row ∷ []) more.0) ∙ more.1)
 
-  -- each entry has a row
+  -- the rows of a log have one for each of its entries
   shown : (h : List Entry) (j : Entry) → Among j h → Shows (entry_rows rules net u h) j
   unfolding entry_rows
   shown [] j a = absurd a
@@ -191,7 +191,7 @@ module _ (rules : Rules) (net : Net) (u : ℕ) where
       subst (λ (z : List Row). Precedes z s t) (sym (append_assoc (entry_rows rules net u h) (mine ∷ []) more.0) ∙ more.1)
       (precedes (entry_rows rules net u h) mine more.0 r.0 s t r.1 (subst (λ (z : List Trigger). Among s z) (sym r.2) x) y (subst (λ (z : Scope). shares z k.read.scope ≡ true) (sym r.3) near))
 
-  -- an entry of an older part has its row in the whole
+  -- the row of an entry of an older part is a row of the whole log
   pub row_stands : (log h : List Entry) (k : Entry) → Older log (k ∷ h) → Among (entry_row rules net u h k) (entry_rows rules net u log)
   row_stands log h k o =
       let more = older_rows log (k ∷ h) o in

@@ -30,14 +30,14 @@ use Rattle.rest_laws.proofs.SentRows.{SendsRow, AllSent, item, in_filtered, outb
 
 -- ---- what is open between two reports
 
--- a carrier is open where it is a missing item
+-- the carrier of a missing item is open
 pub missing_open : (from to : Report) (item : Sent) → Among item (items_of from) → missing from to item ≡ true → Among (of_item item) (open_to from to)
 unfolding open_to
 missing_open from to item a e =
     in_front (of_item item) (map of_item (filter (missing from to) (items_of from))) (map of_pending (filter (waits_for to) from.pending))
     (in_map of_item (filter (missing from to) (items_of from)) item (in_filtered (missing from to) (items_of from) item a e))
 
--- or an update that is held back
+-- the carrier of an update that is held back is open
 pub pending_open : (from to : Report) (row : Pending) → Among row from.pending → waits_for to row ≡ true → Among (of_pending row) (open_to from to)
 unfolding open_to
 pending_open from to row a e =
@@ -55,7 +55,7 @@ of_filter test (y ∷ ys) x a =
       | false ↦ λ e m. let found = of_filter test ys x m in (inr found.0, found.1)
     ]) refl a
 
--- an open carrier is one of the two
+-- an open carrier is that of a missing item, or that of an update that is held back
 pub data OneOf (from to : Report) (c : Carrier) : Type 0 where
   ByItem : (i : Sent) → Among i (items_of from) → missing from to i ≡ true → of_item i ≡ c → OneOf from to c
   ByRow : (row : Pending) → Among row from.pending → waits_for to row ≡ true → of_pending row ≡ c → OneOf from to c
@@ -105,18 +105,18 @@ module _ (rules : Rules) (net : Net) (e : ℕ) (reports : List Report) (blocked 
   unfolding report_of
   sends_item i sends = in_flat (λ (r : Row). r.sent) (entry_rows rules net v b) sends.0 i sends.1 sends.2
 
-  -- so it lists triggers of the set, where it stands in a row
+  -- an item that is in a row, was not received, and is of a session that is still held, lists only triggers of the set
   above_in : (s n : ℕ) (triggers : List Trigger) → SendsRow (entry_rows rules net v b) (item u s n triggers) → StillHolds blocked a v s → length (inbox a v s) < n → AllIn blocked triggers
   above_in s n triggers sends holds above =
       open_in (of_item (item u s n triggers))
       (missing_open (report_of rules net v e b) (report_of rules net u e a) (item u s n triggers) (sends_item (item u s n triggers) sends) (is_missing s n triggers above)) holds
 
-  -- so do all updates that were not received
+  -- each update that was not received in a session that is still held lists only triggers of the set
   updates_in : (s m : ℕ) (xs : List Update) → StillHolds blocked a v s → AllSent (entry_rows rules net v b) u s m xs → AllInFrom blocked (length (inbox a v s)) m xs
   updates_in s m [] holds sent = tt
   updates_in s m (x ∷ xs) holds sent = (λ above. above_in s m x.triggers sent.0 holds above, updates_in s (suc m) xs holds sent.1)
 
-  -- so does what is held back
+  -- what is held back in a session that is still held lists only triggers of the set
   pending_in : (s : ℕ) (row : Pending) → Among row (pending_rows rules net v b) → row.to ≡ u → row.session ≡ s → StillHolds blocked a v s → AllIn blocked row.triggers
   unfolding report_of
   pending_in s row stands to is holds =
@@ -128,27 +128,28 @@ module _ (rules : Rules) (net : Net) (e : ℕ) (reports : List Report) (blocked 
 begins_short : (xs ys : List Update) → Begins xs ys → length xs ≤ length ys
 begins_short xs ys begins = let both = length-append xs begins.0 in subst (λ (z : List Update). length xs ≤ length z) begins.1 (omega arith)
 
--- the rows of a report
+-- the rows of the report of a log
 rows_are : (rules : Rules) (net : Net) (u e : ℕ) (h : List Entry) → (report_of rules net u e h).rows ≡ entry_rows rules net u h
 unfolding report_of
 rows_are rules net u e h = refl
 
 module _ (rules : Rules) (net : Net) (e : ℕ) (reports : List Report) (blocked : Trigger → Bool) (inside : IsClosed reports blocked) (u : ℕ) (log : List Entry) (told : Among (report_of rules net u e log) reports) where
-  -- an entry after one in the set that shares a prefix is in the set
+  -- if an entry lists a trigger of the set, each later entry that shares a prefix with it lists only triggers of the
+  -- set
   order_in : (h : List Entry) (j k : Entry) → Older log (k ∷ h) → Among j h → shares j.read.scope k.read.scope ≡ true → some_in blocked j.triggers ≡ true → AllIn blocked k.triggers
   order_in h j k o a near some =
       let s = some_passes blocked j.triggers some in
       all_from_each (λ t. blocked t ≡ true) k.triggers
       (λ t x. inside.step s.0 t (inl (report_of rules net u e log, told, rw (rows_are rules net u e log) (rows_stand rules net u log h j k s.0 t o a near s.1 x))) s.2)
 
-  -- an entry that lists one trigger of the set lists no other triggers
+  -- an entry that lists one trigger of the set lists only triggers of the set
   together_in : (h : List Entry) (k : Entry) → Older log (k ∷ h) → some_in blocked k.triggers ≡ true → AllIn blocked k.triggers
   together_in h k o some =
       let s = some_passes blocked k.triggers some in
       all_from_each (λ t. blocked t ≡ true) k.triggers
       (λ t x. inside.step s.0 t (inr (inl (report_of rules net u e log, entry_row rules net u h k, told, rw (rows_are rules net u e log) (row_stands rules net u log h k o), s.1, x))) s.2)
 
--- the reports have one of the log of each of the nodes
+-- the reports have the report of each node's log
 abbrev pub HaveReports : Rules → Net → ℕ → List ℕ → (ℕ → List Entry) → List Report → Type 0
 HaveReports rules net e nodes log reports = (u : ℕ) → Among u nodes → Among (report_of rules net u e (log u)) reports
 
@@ -183,7 +184,7 @@ closed_over rules net nodes log e reports blocked valid family told inside = rec
         pending_in rules net e reports blocked inside u v (log u) (log v) (family.fits u mu) near (told u mu) (told v mv) s (pending_row (pending rules net v (log v) u) u s p)
         (held_rows rules net v (log v) u s p (other_way u v near) known held_in q) refl refl holds
 
--- the incomplete triggers of the value of the reports of a family are closed
+-- the incomplete triggers of the value of a family's reports are a closed set
 pub closed_of_value : (rules : Rules) (net : Net) (nodes : List ℕ) (log : ℕ → List Entry) (e : ℕ) (reports : List Report) (value : Value) → IsValid net → Family rules net nodes log
     → HaveReports rules net e nodes log reports → IsValue reports value → Closed rules net nodes log (lists value.incomplete)
 closed_of_value rules net nodes log e reports value valid family told is = closed_over rules net nodes log e reports (lists value.incomplete) valid family told (value_closed reports value is)

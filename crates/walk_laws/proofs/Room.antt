@@ -24,7 +24,7 @@ use Rattle.walk_laws.proofs.OnTables.{Read}
 use Rattle.walk_laws.proofs.OffTables.{counts_since, read_hop}
 use Rattle.walk_laws.proofs.Trails.{but_last_is_there, trail_is_old}
 
--- the last one in front of the others
+-- different numbers still differ with the last one in front of the others
 differ_turned : (xs : List ℕ) (n : ℕ) → differ (xs ++ n ∷ []) ≡ true → differ (n ∷ xs) ≡ true
 differ_turned [] n apart = refl
 differ_turned (x ∷ xs) n apart =
@@ -56,11 +56,12 @@ not_reached scheme.Backup packet view walk does is = is
 
 module _ (net : Net) (packet : Packet) (view : Sight) (before : List Visit) (off : packet.mode ≡ Transient) (nodes : (x : ℕ) → has view.up x ≡ true → has net.nodes x ≡ true)
     (own : (x : ℕ) → has view.up x ≡ true → has net.nodes view.at ≡ true) (few : length net.nodes ≤ 64) (old : Roomy net before view.at packet) where
-  -- what is needed after a move, besides that the fields can be read from the walk
+  -- what has to hold of the packet after a move to w: its way back is short, and leads over different nodes of the
+  -- network
   abbrev HasRoom : ℕ → Packet → Type 0
   HasRoom w q = (length q.trail < 64) × ((x : ℕ) → has q.trail x ≡ true → has net.nodes x ≡ true) × (q.reached ≡ false → differ (w ∷ q.trail) ≡ true)
 
-  -- forward
+  -- a packet has room after a move forward
   forth : (w : ℕ) → deflects net.scheme packet view ≡ true → has view.up w ≡ true → visits net packet.visited w ≡ false
       → HasRoom w (record (spent net w packet) { trail = packet.trail ++ view.at ∷ [] })
   forth w does up new =
@@ -94,7 +95,7 @@ module _ (net : Net) (packet : Packet) (view : Sight) (before : List Visit) (off
             | false ↦ λ e d. subst (λ n. has net.nodes n ≡ true) (same_is view.at x d) (own w up)
           ]) refl (sym (has-append packet.trail view.at x) ∙ there)
 
-  -- back
+  -- a packet has room after a move back
   back_to : (w : ℕ) → deflects net.scheme packet view ≡ true → last_of packet.trail ≡ Some w → HasRoom w (record (spent net w packet) { trail = but_last packet.trail })
   back_to w does end =
       let less = but_last_is_short packet.trail in
@@ -103,7 +104,7 @@ module _ (net : Net) (packet : Packet) (view : Sight) (before : List Visit) (off
       let whole : differ (but_last packet.trail ++ w ∷ []) ≡ true = ap differ (last_at_end packet.trail w end) ∙ and_right (not (has packet.trail view.at)) (differ packet.trail) stack in
       (omega (arith, less, short), λ x there. old.nodes x (but_last_is_there packet.trail x there), λ none. differ_turned (but_last packet.trail) w whole)
 
-  -- the way back stays the same
+  -- a packet has room after a move that leaves its way back as it was
   same_way : (w : ℕ) (q : Packet) → q.trail ≡ packet.trail → (q.reached ≡ false → packet.trail ≡ []) → HasRoom w q
   same_way w q same none =
       (subst (λ (l : List ℕ). length l < 64) (sym same) old.short, λ x there. old.nodes x (ap (λ l. has l x) (sym same) ∙ there), λ off. ap (λ l. differ (w ∷ l)) (same ∙ none off))
