@@ -9,6 +9,7 @@ pub mod Fitting
 pub mod Probing
 pub mod Gathered
 pub mod Hops
+pub mod Keeping
 pub mod Listed
 pub mod Logs
 pub mod Mails

@@ -20,6 +20,7 @@ pub mod ReasonText
 pub mod Replayed
 pub mod RibText
 pub mod Running
+pub mod ShownClosure
 pub mod TablesText
 pub mod Text
 pub mod Turns

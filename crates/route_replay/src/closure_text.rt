@@ -13,12 +13,14 @@ ghost use Rattle.route_replay.specs.ClosureText.{closure_text, value_text};
 ghost use Rattle.route_replay.specs.Gathering.{Breaks, Gathers, page_view};
 ghost use Rattle.route_replay.specs.Lines.{further, listed};
 ghost use Rattle.route_replay.specs.Past.{past_of};
+ghost use Rattle.route_replay.specs.ShownClosure.{IsCurrent};
 
 use crate::ends::RunEnd;
 use crate::log_text::triggers_words;
 use crate::node_views::node_of;
 use crate::numbers::{push_node, push_number};
 use crate::page::Page;
+use crate::shown_closure::{ShownClosure, line_of};
 use incomplete_closure::{Report, Value, uncounted_closure};
 use node_core::Node;
 use path_vector::Policy;
@@ -95,9 +97,9 @@ pub(crate) fn value_words(out: &mut String, value: &Value) -> Result<(), AllocEr
     triggers_words(out, value.incomplete.as_slice())
 }
 
-// The line of the value of an epoch, over the reports of all nodes that have a cut of it.
+/// Adds the line of the value of an epoch, over the reports of all nodes that have a cut of it.
 #[tactic(auto, unfolding(crate::specs::ClosureText::closure_text))]
-fn closure_line<P: Policy + Copy>(
+pub(crate) fn closure_line<P: Policy + Copy>(
     out: &mut String,
     alloc: Global,
     world: &World<P>,
@@ -117,13 +119,16 @@ fn closure_line<P: Policy + Copy>(
     Ok(())
 }
 
-/// Adds the line of the value of an epoch, over the reports of all nodes that have a cut of it.
-pub fn add_closure<P: Policy + Copy, O: Sink>(
+/// Adds the line of the value of an epoch, and keeps it: where it is kept already, it is not made anew.
+pub(crate) fn add_closure<P: Policy + Copy, O: Sink>(
     page: &mut Page<'_, String, O>,
     alloc: Global,
     world: &World<P>,
+    kept: &mut Option<ShownClosure>,
     epoch: Epoch,
 ) -> Result<(), RunEnd>
+    requires { IsCurrent (P.rules world.now.policy) world.now.net world.now.events kept.old }
+    ensures kept { IsCurrent (P.rules world.now.policy) world.now.net world.now.events kept.new }
     ensures gathers { let rules = P.rules world.now.policy in
         OnOk result (Gathers (page_view O.seen page.old) (page_view O.seen page.new)
         (closure_text rules world.now.net (past_of rules world.now) epoch)) }
@@ -132,6 +137,8 @@ pub fn add_closure<P: Policy + Copy, O: Sink>(
         (string_bytes page.old.text ++ closure_text rules world.now.net (past_of rules world.now) epoch)) }
     ensures same_sink { page.new.sink.ghost_name ≡ page.old.sink.ghost_name }
 {
-    closure_line(&mut page.text, alloc, world, epoch)?;
+    let line = line_of(alloc, world, kept.take(), epoch)?;
+    page.text.push_str(&line.line)?;
+    *kept = Some(line);
     Ok(())
 }

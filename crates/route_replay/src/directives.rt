@@ -11,11 +11,13 @@ ghost use Rattle.world_core.specs.Fits.{fits};
 ghost use Rattle.route_replay.specs.Text.{idle_line, task_of, said, step_text, course, controlled, drained, hopped, is_idle, with_event};
 ghost use Rattle.route_replay.specs.Past.{past_of};
 ghost use Rattle.route_replay.specs.Running.{Fitting, Advances, StopsIn, lines_by, limit_by, Runs};
+ghost use Rattle.route_replay.specs.ShownClosure.{IsCurrent};
 
 use crate::ends::RunEnd;
 use crate::numbers::push_number;
 use crate::page::Page;
 use crate::reason_text::reason_words;
+use crate::shown_closure::{ShownClosure, keep_through};
 use crate::tasks::{Task, task_of};
 use crate::views::show;
 use path_vector::Policy;
@@ -166,14 +168,18 @@ pub(crate) fn hop<P: Policy + Copy>(
     Ok(world)
 }
 
-/// The world after a directive, whose lines are written.
-pub fn advance<P: Policy + Copy, O: Sink>(
+/// The world after a directive, whose lines are written. The line of a closure is kept until the next directive that may
+/// change the world.
+pub(crate) fn advance<P: Policy + Copy, O: Sink>(
     alloc: Global,
     world: World<P>,
+    kept: &mut Option<ShownClosure>,
     numbered: &Numbered,
     sink: &mut O,
 ) -> Result<World<P>, RunEnd>
-    requires { Fitting world.net (task_of numbered.now.directive) }
+    requires fits { Fitting world.net (task_of numbered.now.directive) }
+    requires kept { IsCurrent (P.rules world.policy) world.net world.events kept.old }
+    ensures kept { IfOk result (λ next. IsCurrent (P.rules world.policy) next.net next.events kept.new) }
     ensures world { IfOk result (λ next. Advances world next
         (course (P.rules world.policy) world.net world.events (task_of numbered.now.directive))) }
     ensures runs { let rules = P.rules world.policy in
@@ -181,13 +187,15 @@ pub fn advance<P: Policy + Copy, O: Sink>(
         Runs (O.seen sink.old) (O.seen sink.new)
         (lines_by (said rules world.net world.events numbered.now) led) (limit_by led) result }
 {
-    match task_of(&numbered.directive) {
+    let task = task_of(&numbered.directive);
+    keep_through(kept, &task);
+    match task {
         Task::Event(event) => act(alloc, world, numbered.line, event, sink),
         Task::Deliveries(times) => Ok(drain(world, times)?),
         Task::ControlMessages(times) => Ok(control_all(world, times)?),
         Task::Hops { packet, times } => Ok(hop(world, packet, times)?),
         Task::Show(view) => {
-            show(alloc, &world, view, sink)?;
+            show(alloc, &world, kept, view, sink)?;
             Ok(world)
         }
     }

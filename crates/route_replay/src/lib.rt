@@ -20,6 +20,7 @@ pub mod probe_text;
 pub mod reason_text;
 pub mod rib_text;
 pub mod runner;
+pub mod shown_closure;
 pub mod summary;
 pub mod tables_text;
 pub mod tasks;

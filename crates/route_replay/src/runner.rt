@@ -32,8 +32,9 @@ pub fn run_lines<P: Policy + Copy, O: Sink>(
         (texts (P.rules world.policy) world.net world.events lines.now) }
 {
     let mut world = world;
+    let mut kept = None;
     for numbered in lines {
-        world = advance(alloc, world, numbered, sink)?;
+        world = advance(alloc, world, &mut kept, numbered, sink)?;
     }
     Ok(())
 }

@@ -16,6 +16,7 @@ pub loop-numbered-init : goal.loop-numbered-init
 loop-numbered-init g c = record {
   same_policy = refl;
   same_net = refl;
+  kept = tt;
   written = ([], appends_none _, adds_no_piece _ [], refl);
   turns = ([], takes_none _, refl);
   stops = refl;
@@ -25,12 +26,18 @@ loop-numbered-init g c = record {
 }
 
 -- the directive at hand fits
-pub advance-requires : goal.advance-requires
-advance-requires g c =
+pub advance-requires-clause-fits : goal.advance-requires-clause-fits
+advance-requires-clause-fits g c =
     let was = c.loop-numbered.invariant in
     let d = c.numbered-item.result in
     let fits = c.requires c.loop-numbered.numbered-index d c.loop-numbered-test.true in
     rw was.same_net (subst (λ (one : Numbered). Fitting c.args.world.net (task_of one.directive)) (sym c.numbered-item.is) fits)
+
+-- the line that is kept is that of the run so far
+pub advance-requires-clause-kept : goal.advance-requires-clause-kept
+advance-requires-clause-kept g c =
+    let was = c.loop-numbered.invariant in
+    rw (was.same_policy, was.same_net) was.kept
 
 pub loop-numbered-preserved : goal.loop-numbered-preserved
 loop-numbered-preserved g c =
@@ -50,6 +57,7 @@ loop-numbered-preserved g c =
     record {
       same_policy = advances.same_policy ∙ was.same_policy;
       same_net = advances.same_net ∙ was.same_net;
+      kept = rw (was.same_policy, advances.same_net, was.same_net) at c.in_ok-world.ensures.kept;
       written = (
         was.written.0 ++ lines_by (said rules net events d) led,
         appends_on _ _ _ _ _ was.written.1 runs.whole.0,

@@ -2,6 +2,7 @@ use Rattle.std.proofs.Common.{◌≡◌, ◌++◌, List, ℕ, drop}
 use Rattle.std.specs.Io.KnownBytes.{Appends}
 use Rattle.route_io.specs.Acts.{AddsPieces}
 use Rattle.route_io.specs.Causes.{StaysTold}
+use Rattle.route_replay.specs.ShownClosure.{IsCurrent}
 use Rattle.route_replay.specs.Text.{text, texts, stop}
 use Rattle.route_replay.proofs.Turns.{TakesTexts}
 use Rattle.route_replay.proofs.runner.run_lines.Given as goal
@@ -17,6 +18,7 @@ invariant-loop-numbered g l =
     record {
       same_policy : l.world.policy ≡ l.fn.world.policy;
       same_net : l.world.net ≡ net;
+      kept : IsCurrent rules net l.world.events l.kept;
       written : (words : List ℕ) × Appends was.held now.held words × AddsPieces was now words words
           × (words ++ text rules net l.world.events left ≡ text rules net l.fn.world.events l.lines);
       turns : (done : List (List ℕ)) × TakesTexts was now done

@@ -7,8 +7,8 @@ use Rattle.route_replay.proofs.Acts.{handed_runs, runs_cut, runs_shown, runs_hal
 use Rattle.route_replay.proofs.views.show.Goals as goal
 
 -- some of it was not gathered
-pub returns-in_err-add_view : goal.returns-in_err-add_view
-returns-in_err-add_view g c =
+pub returns-in_err-add_view-clause-runs : goal.returns-in_err-add_view-clause-runs
+returns-in_err-add_view-clause-runs g c =
     let seen = g.O.Sink.seen in
     let world = c.args.world.now in
     let rules_of = g.P.Policy.rules world.policy in
@@ -18,8 +18,8 @@ returns-in_err-add_view g c =
     runs_at seen (seen c.args.sink.now) c.add_view.new.page.sink.now _ text None (Err why) (runs_cut _ _ text text None why c.in_err-add_view.field-0.0 broke same refl) (search rules))
 
 -- the rest of it was not written
-pub returns-in_err-flush : goal.returns-in_err-flush
-returns-in_err-flush g c =
+pub returns-in_err-flush-clause-runs : goal.returns-in_err-flush-clause-runs
+returns-in_err-flush-clause-runs g c =
     let seen = g.O.Sink.seen in
     let world = c.args.world.now in
     let rules_of = g.P.Policy.rules world.policy in
@@ -30,8 +30,8 @@ returns-in_err-flush g c =
     (runs_half_shown (record { sink = seen c.args.sink.now; pending = string_bytes c.new-page.result.text }) (page_view seen c.add_view.new.page) _ text why c.in_err-flush.field-0.0
     c.new-page.ensures.empty gathers c.in_err-flush.ensures.breaks same) (search rules))
 
-pub returns : goal.returns
-returns g c =
+pub returns-clause-runs : goal.returns-clause-runs
+returns-clause-runs g c =
     let seen = g.O.Sink.seen in
     let world = c.args.world.now in
     let rules_of = g.P.Policy.rules world.policy in
