@@ -206,6 +206,7 @@ impl Links {
     }
 
     /// The state of the link of two nodes. Takes no memory.
+    #[inline(always)]
     pub fn state(&self, a: NodeId, b: NodeId) -> LinkState
         ensures { (net : Net) (acts : LinkActs) → StandsFor net self.now acts → linked net a b ≡ true →
             result ≡ state a b acts }

@@ -112,6 +112,7 @@ impl Neighbour {
     }
 
     // Takes an entry of this node that names this neighbour.
+    #[inline(always)]
     fn take(&mut self, scope: Scope, cause: &Cause, node: NodeId) -> Result<(), NoMemory>
         ensures remembers { OnOk result ((net : Net) (past : History) → Remembers net node past self.old →
             Accepts past scope cause.now → names cause.now ≡ Some self.old.id →
@@ -126,6 +127,7 @@ impl Neighbour {
 
     // Takes an entry that names this neighbour. `led` is the candidate that an update brings; it is `None` for a
     // withdrawal, and where the own node is on the path.
+    #[inline(always)]
     fn heed(&mut self, scope: Scope, cause: &Cause, led: Option<Candidate>)
         ensures remembers { (net : Net) (u : ℕ) (past : History) → Remembers net u past self.old →
             Accepts past scope cause.now → names cause.now ≡ Some self.old.id →
@@ -330,6 +332,7 @@ pub(crate) fn find<'a>(
 }
 
 // Takes an entry of this node.
+#[inline(always)]
 pub(crate) fn heed(
     neighbours: &mut Vec<Neighbour>,
     likely: &LikelyPlaces,

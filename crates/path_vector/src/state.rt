@@ -137,6 +137,7 @@ impl<P: Policy + Copy> RouteState<P> {
     }
 
     /// Takes one more entry of the log. If the entry may not follow those before it, nothing is promised of the state.
+    #[inline(always)]
     pub fn apply(&mut self, scope: Scope, cause: &Cause) -> Result<(), NoMemory>
         ensures ok { OnOk result ((policy : P) (net : Net) (u : ℕ) (past : History) →
             StandsFor policy net u self.old past → Accepts past scope cause.now →

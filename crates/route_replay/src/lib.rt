@@ -29,4 +29,4 @@ pub mod walk_text;
 
 pub use loading::load;
 pub use plain::{load_plain, replay_plain};
-pub use runner::replay;
+pub use runner::{replay, replay_at_exit};

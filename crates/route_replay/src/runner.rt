@@ -12,17 +12,36 @@ use path_vector::{GaoRexford, Policy};
 use route_io::{ReadEnd, Sink, Source, read_all};
 use schedule_file::{Numbered, ParseEnd, Schedule, parse};
 use std::alloc::Global;
+use std::mem;
 use std::rc::Rc;
 use topology::limits::MOST_BYTES;
 use topology::{LimitKind, Status};
 use world_core::World;
 
-/// Runs the directives, and writes the text of each before the next is taken.
+/// What becomes of the memory of a world that has run to its end.
+#[derive(Clone, Copy)]
+pub enum AtEnd {
+    /// It is given back, block by block.
+    Free,
+    /// It is left as it is, for a process that ends now. The system takes back all memory of a process at once.
+    Leave,
+}
+
+// Ends the world.
+fn end<P: Policy + Copy>(world: World<P>, at_end: AtEnd) {
+    match at_end {
+        AtEnd::Free => drop(world),
+        AtEnd::Leave => mem::forget(world),
+    }
+}
+
+/// Runs the directives, writes the text of each before the next is taken, and ends the world.
 pub fn run_lines<P: Policy + Copy, O: Sink>(
     alloc: Global,
     world: World<P>,
     lines: &[Numbered],
     sink: &mut O,
+    at_end: AtEnd,
 ) -> Result<(), RunEnd>
     requires { AllFitting world.net lines.now }
     ensures runs { Runs (O.seen sink.old) (O.seen sink.new)
@@ -36,11 +55,17 @@ pub fn run_lines<P: Policy + Copy, O: Sink>(
     for numbered in lines {
         world = advance(alloc, world, &mut kept, numbered, sink)?;
     }
+    end(world, at_end);
     Ok(())
 }
 
 // Runs a schedule in a new world.
-fn run_schedule<O: Sink>(alloc: Global, schedule: Schedule, sink: &mut O) -> Result<(), RunEnd>
+fn run_schedule<O: Sink>(
+    alloc: Global,
+    schedule: Schedule,
+    sink: &mut O,
+    at_end: AtEnd,
+) -> Result<(), RunEnd>
     requires { AllFitting schedule.topology schedule.lines.items }
     ensures runs { Runs (O.seen sink.old) (O.seen sink.new)
         (text gao_rexford schedule.topology [] schedule.lines.items)
@@ -55,12 +80,16 @@ fn run_schedule<O: Sink>(alloc: Global, schedule: Schedule, sink: &mut O) -> Res
     let Ok(world) = World::new(alloc, topology, GaoRexford) else {
         return Err(RunEnd::NoMemory);
     };
-    run_lines(alloc, world, &lines, sink)
+    run_lines(alloc, world, &lines, sink, at_end)
 }
 
-/// Reads a schedule from the source, runs it, and writes its text to the sink. What a user may
-/// rely on stands in `specs/Replayed.antt`.
-pub fn replay<I: Source, O: Sink>(alloc: Global, source: &mut I, sink: &mut O) -> Status
+// Does what `replay` does, and ends the world so.
+fn replay_and<I: Source, O: Sink>(
+    alloc: Global,
+    source: &mut I,
+    sink: &mut O,
+    at_end: AtEnd,
+) -> Status
     ensures { Replayed (I.seen source.old) (I.seen source.new) (O.seen sink.old) (O.seen sink.new) result }
 {
     let bytes = match read_all(alloc, source, MOST_BYTES as usize) {
@@ -78,10 +107,26 @@ pub fn replay<I: Source, O: Sink>(alloc: Global, source: &mut I, sink: &mut O) -
     delivery_laws::laws::a_walk_over_it_delivers();
     // that a network is valid is said where its nodes are read
     let _nodes = schedule.topology.nodes();
-    match run_schedule(alloc, schedule, sink) {
+    match run_schedule(alloc, schedule, sink, at_end) {
         Ok(()) => Status::Done,
         Err(RunEnd::NoMemory) => Status::NoMemory,
         Err(RunEnd::WriteFault) => Status::WriteFault,
         Err(RunEnd::Limit(kind, number)) => Status::Limit(kind, number),
     }
+}
+
+/// Reads a schedule from the source, runs it, and writes its text to the sink. What a user may
+/// rely on stands in `specs/Replayed.antt`.
+pub fn replay<I: Source, O: Sink>(alloc: Global, source: &mut I, sink: &mut O) -> Status
+    ensures { Replayed (I.seen source.old) (I.seen source.new) (O.seen sink.old) (O.seen sink.new) result }
+{
+    replay_and(alloc, source, sink, AtEnd::Free)
+}
+
+/// As [`replay`], for a process that ends behind it: a world that ran to its end does not give back its memory, which takes
+/// seven of a hundred instructions of a cold start. The system takes it back with the process.
+pub fn replay_at_exit<I: Source, O: Sink>(alloc: Global, source: &mut I, sink: &mut O) -> Status
+    ensures { Replayed (I.seen source.old) (I.seen source.new) (O.seen sink.old) (O.seen sink.new) result }
+{
+    replay_and(alloc, source, sink, AtEnd::Leave)
 }

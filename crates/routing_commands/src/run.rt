@@ -11,7 +11,7 @@ use acceptor_journal::Disk;
 use leadership::lead;
 use route_io::{Link, Sink, Source};
 use route_node::{KeptNode, attend, attend_kept};
-use route_replay::{load, replay};
+use route_replay::{load, replay_at_exit};
 use std::alloc::Global;
 use table_audit::audit;
 use topology::Status;
@@ -34,7 +34,7 @@ fn outcome<I: Source, O: Sink, L: Link, D: Disk>(
         return Status::Usage;
     };
     match form {
-        Form::Replay => replay(alloc, source, sink),
+        Form::Replay => replay_at_exit(alloc, source, sink),
         Form::Load(number) => load(alloc, number, sink),
         Form::Node(id, address) => attend(alloc, id, address, source, link),
         Form::KeptNode(id, address, file) => {

@@ -53,7 +53,7 @@ impl HeldBack {
     pub fn holds(&self, nbr: NodeId) -> bool
         ensures { result ≡ has self.now.from.items nbr }
     {
-        self.from.contains(&nbr)
+        !self.is_free() && self.from.contains(&nbr)
     }
 
     /// The updates that are held back.

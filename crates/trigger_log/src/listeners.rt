@@ -133,6 +133,7 @@ pub fn known<'a, P: Policy + Copy>(
 }
 
 // Lists one more update. Returns its number.
+#[inline(always)]
 fn say(
     listener: &Listener,
     count: u32,
