@@ -9,7 +9,7 @@ nothing blocks stand before links of one chain, which runs through all reports f
 first: a closure in rounds would go over all rows once for each link. The table has, for so many rows and links in a
 report, the seconds from the first frame to the end, without and with the request to propose; with --callgrind the
 instructions, millions, of the same two runs. The difference is the closure. A value of more than 8192 triggers is
-computed too, and then not proposed: the node ends with that limit.
+computed too, and then not proposed: the node ends with that limit. The last line has the same for fifty ballots over full reports.
 """
 import argparse
 import os
@@ -48,8 +48,8 @@ def reports(rows, links):
     return frames
 
 
-def proposal():
-    ballot = pack(">IIH", 1, 1, 1)
+def proposal(number=1):
+    ballot = pack(">IIH", 1, number, 1)
     return frame(7, pack(">I", 1)) + frame(12, pack(">H", 1) + ballot) + frame(13, pack(">H", 1) + ballot + b"\0")
 
 
@@ -78,6 +78,13 @@ def answered(program, frames):
         return seconds, said
 
 
+def cost(program, frames):
+    """The seconds that the node takes for the frames; under callgrind its instructions, in millions."""
+    seconds, told = answered(program, frames)
+    counted = re.search(r"Collected : (\d+)", told)
+    return "%.0f" % (int(counted[1]) / 1e6) if counted else "%.3f" % seconds
+
+
 def main():
     asked = argparse.ArgumentParser(description=__doc__.split("\n")[0])
     asked.add_argument("program", nargs="?", default=BUILT)
@@ -89,12 +96,10 @@ def main():
     print("| Rows a report | Links a report | Rounds that it would take | Reports alone | With the closure |")
     print("|---|---|---|---|---|")
     for rows, links in SIZES:
-        frames, figures = reports(rows, links), []
-        for more in (b"", proposal()):
-            seconds, told = answered(program, frames + more)
-            counted = re.search(r"Collected : (\d+)", told)
-            figures.append("%.0f" % (int(counted[1]) / 1e6) if counted else "%.3f" % seconds)
-        print(f"| {rows} | {links} | {NODES * links} | {figures[0]} | {figures[1]} |")
+        frames = reports(rows, links)
+        print(f"| {rows} | {links} | {NODES * links} | {cost(program, frames)} | {cost(program, frames + proposal())} |")
+    ballots = b"".join(proposal(number) for number in range(1, 51))
+    print(f"\n64 full reports and fifty ballots: {cost(program, reports(2048, 1) + ballots)}")
 
 
 if __name__ == "__main__":
