@@ -5,7 +5,7 @@ pub returns-in_default-clause-headline : goal.returns-in_default-clause-headline
 returns-in_default-clause-headline g c = of_none _ _ (rw c.in_default.is at c.form_of.ensures.none)
 
 pub returns-in-Replay-clause-headline : goal.returns-in-Replay-clause-headline
-returns-in-Replay-clause-headline g c = of_replay _ _ _ _ _ _ _ _ (rw c.in-Replay.is at c.in-Some.ensures.some) c.replay.ensures
+returns-in-Replay-clause-headline g c = of_replay _ _ _ _ _ _ _ _ (rw c.in-Replay.is at c.in-Some.ensures.some) c.replay_at_exit.ensures
 
 pub returns-in-Load-clause-headline : goal.returns-in-Load-clause-headline
 returns-in-Load-clause-headline g c = of_load _ _ _ _ _ _ _ _ (rw c.in-Load.is at c.in-Some.ensures.some) c.load.ensures
