@@ -314,7 +314,6 @@ impl<P: Policy + Copy> RouteState<P> {
     }
 
     /// The path that the node offered a neighbour while `chosen` was its best route.
-    #[inline(always)]
     pub fn offered_path<'a>(&self, chosen: &'a Chosen, nbr: NodeId) -> Option<&'a Path>
         ensures { (policy : P) (net : Net) (u : ℕ) (h : History) (route : Route) →
             StandsFor policy net u self.now h →
@@ -322,7 +321,19 @@ impl<P: Policy + Copy> RouteState<P> {
             option_map (λ path. path.now) result
             ≡ path_of u (exported (P.rules policy) net u nbr route) }
     {
-        if !self.tells(chosen.learned?, self.relation_to(nbr)) {
+        self.path_for(chosen, self.relation_to(nbr))
+    }
+
+    /// The path that the node offered neighbours with this relation while `chosen` was its best route.
+    #[inline(always)]
+    pub fn path_for<'a>(&self, chosen: &'a Chosen, to: Option<Relation>) -> Option<&'a Path>
+        ensures { (policy : P) (net : Net) (u nbr : ℕ) (h : History) (route : Route) →
+            StandsFor policy net u self.now h →
+            Copies net u chosen.now route → to ≡ relation net u nbr →
+            option_map (λ path. path.now) result
+            ≡ path_of u (exported (P.rules policy) net u nbr route) }
+    {
+        if !self.tells(chosen.learned?, to) {
             return None;
         }
         chosen.path.as_ref()
@@ -336,9 +347,9 @@ impl<P: Policy + Copy> RouteState<P> {
         self.alone.nodes()[0]
     }
 
-    // What a neighbour is to the node.
+    /// What a neighbour is to the node.
     #[inline(always)]
-    fn relation_to(&self, nbr: NodeId) -> Option<Relation>
+    pub fn relation_to(&self, nbr: NodeId) -> Option<Relation>
         ensures { (policy : P) (net : Net) (u : ℕ) (h : History) →
             StandsFor policy net u self.now h →
             has (neighbours net u) nbr ≡ true → result ≡ relation net u nbr }

@@ -1,5 +1,5 @@
 //! Any number of items that were sent for one trigger, in one block.
-ghost use Rattle.std.specs.Prelude.{◌≡◌, [], length, map, slice_get, IfOk, IfSome, IsNone};
+ghost use Rattle.std.specs.Prelude.{◌≡◌, ◌∷◌, [], length, map, slice_get, IfOk, IfSome, IsNone};
 ghost use Rattle.std.specs.List.{AllByRecursion, list_any};
 ghost use Rattle.topology.specs.AlikeLists.{unpacked};
 ghost use Rattle.topology.specs.Triggers.{Ascend};
@@ -9,7 +9,7 @@ ghost use Rattle.topology.specs.declared.names.Trigger.{Trigger as AnyTrigger};
 use crate::items::Sent;
 use crate::packed_sent::{only, short};
 use crate::sent_ref::SentRef;
-use crate::{NoMemory, NodeId, Trigger};
+use crate::{NoMemory, NodeId, Session, Trigger, Triggers};
 use smallvec::SmallVec;
 use std::alloc::Global;
 use std::marker::Model;
@@ -17,12 +17,37 @@ use std::marker::Model;
 /// How many items stand in the block. Those of a longer list stand behind it.
 const IN_PLACE: usize = 8;
 
-// An item without its trigger, in a session and with a number of two bytes.
+/// An item without its trigger, in a session and with a number of two bytes.
 #[derive(Clone, Copy, Debug, Default)]
-struct ShortSent {
-    to: NodeId,
-    session: u16,
-    seq: u16,
+pub struct ShortSent {
+    pub(crate) to: NodeId,
+    pub(crate) session: u16,
+    pub(crate) seq: u16,
+}
+
+impl ShortSent {
+    /// This item, where its session and its number have two bytes.
+    #[inline(always)]
+    pub(crate) fn of(to: NodeId, session: Session, seq: u32) -> Option<ShortSent>
+        ensures some { IfSome result (λ item. (t : AnyTrigger) →
+            unpacked t item ≡ record { to = to; session = session; seq = seq; triggers = t ∷ [] }) }
+    {
+        let session = short(session.number())?;
+        let seq = short(seq)?;
+        Some(ShortSent { to, session, seq })
+    }
+
+    /// The item, which lists this trigger.
+    pub(crate) fn with(&self, trigger: Trigger) -> Sent
+        ensures { result ≡ unpacked trigger self.now }
+    {
+        Sent {
+            to: self.to,
+            session: Session::new(u32::from(self.session)),
+            seq: u32::from(self.seq),
+            triggers: Triggers::one(trigger),
+        }
+    }
 }
 
 /// Items that list the same one trigger, in sessions and with numbers of two bytes. The trigger stands once.
@@ -100,6 +125,20 @@ impl AlikeSent {
             trigger: Trigger { node, count },
             items,
         }))
+    }
+
+    /// These items, which list this trigger.
+    pub(crate) fn of_short(
+        alloc: Global,
+        trigger: Trigger,
+        items: &[ShortSent],
+    ) -> Result<AlikeSent, NoMemory>
+        ensures { IfOk result (λ kept. kept ≡ map (unpacked trigger) items.now) }
+    {
+        Ok(AlikeSent {
+            trigger,
+            items: SmallVec::from_slice(alloc, items)?,
+        })
     }
 
     /// The item at this place.

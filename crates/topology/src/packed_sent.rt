@@ -1,9 +1,11 @@
 //! One or two items that were sent for one trigger, without a list on the heap.
 ghost use Rattle.std.specs.Prelude.{◌≡◌, ◌≢◌, ◌≤◌, ◌^◌, ◌↔◌, ◌∷◌, [], length, slice_get, IfSome, IsNone};
 ghost use Rattle.std.specs.List.{list_any};
+ghost use Rattle.topology.specs.AlikeLists.{unpacked};
 ghost use Rattle.topology.specs.Triggers.{Ascend};
 ghost use Rattle.topology.specs.SentLists.{IsSmall, is_above, marks_of};
 
+use crate::alike_sent::ShortSent;
 use crate::items::Sent;
 use crate::sent_ref::SentRef;
 use crate::{NodeId, Session, Trigger, Triggers};
@@ -97,6 +99,18 @@ impl OneSent {
         })
     }
 
+    /// This item, which lists the trigger.
+    pub(crate) fn short(item: &ShortSent, trigger: Trigger) -> OneSent
+        ensures { result ≡ unpacked trigger item.now ∷ [] }
+    {
+        OneSent {
+            to: item.to,
+            session: Session::new(u32::from(item.session)),
+            seq: u32::from(item.seq),
+            trigger,
+        }
+    }
+
     /// The same item again.
     pub fn copy(&self) -> OneSent
         ensures { result ≡ self.now }
@@ -167,6 +181,18 @@ impl TwoSent {
             seq: (seq, other_seq),
             trigger,
         })
+    }
+
+    /// These items, which list the trigger.
+    pub(crate) fn short(one: &ShortSent, other: &ShortSent, trigger: Trigger) -> TwoSent
+        ensures { result ≡ unpacked trigger one.now ∷ unpacked trigger other.now ∷ [] }
+    {
+        TwoSent {
+            to: (one.to, other.to),
+            session: (one.session, other.session),
+            seq: (one.seq, other.seq),
+            trigger,
+        }
     }
 
     /// The same items again.

@@ -6,6 +6,7 @@ ghost use Rattle.topology.specs.SentLists.{AreAlike, IsUnlike, is_above, listed_
 
 use crate::alike_sent::AlikeSent;
 use crate::packed_sent::{OneSent, TwoSent};
+use crate::sent_list::SentList;
 use crate::sent_ref::SentRef;
 use crate::{NoMemory, Sent, Trigger};
 use std::alloc::Global;
@@ -109,6 +110,25 @@ impl SentItems {
                 kept: in_a_block(alloc, items)?,
             }),
         }
+    }
+
+    /// The items of this list.
+    pub fn of_list(alloc: Global, list: &SentList) -> Result<SentItems, NoMemory>
+        ensures { IfOk result (λ sent. sent ≡ list.now) }
+    {
+        let Some((trigger, items)) = list.short() else {
+            return SentItems::of(alloc, &list.whole(alloc)?);
+        };
+        let kept = match items {
+            [] => Kept::Nothing,
+            [item] => Kept::One(OneSent::short(item, trigger)),
+            [one, other] => Kept::Two(TwoSent::short(one, other, trigger)),
+            [_, _, _, ..] => {
+                let list = AlikeSent::of_short(alloc, trigger, items)?;
+                Kept::Alike(Rc::new(alloc, list)?)
+            }
+        };
+        Ok(SentItems { kept })
     }
 
     /// No items. Takes no memory.

@@ -15,7 +15,7 @@ pub record Speech : Type 0 where
 
 -- what was told, as the definitions see it
 abbrev pub speech_of : Said → Speech
-speech_of said = record { sent = said.sent.items; out = said.outgoing.items }
+speech_of said = record { sent = said.sent; out = said.outgoing.items }
 
 -- nothing said
 abbrev pub silence : Speech

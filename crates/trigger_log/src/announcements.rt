@@ -22,7 +22,7 @@ use crate::listeners::{Listener, Said, Turn, tell, tell_held};
 use crate::quiet_entries::is_quiet;
 use crate::sessions::{SessionMark, Sessions};
 use path_vector::{Cause, Policy, RouteState};
-use topology::{NoMemory, NodeId, Sent, Triggers};
+use topology::{NoMemory, NodeId, SentList, Triggers};
 
 // Whether the entry ends a session with the neighbour.
 fn ends_with(cause: &Cause, with: NodeId) -> bool
@@ -60,10 +60,10 @@ fn close(
     held: &HeldBack,
     mark: &SessionMark,
     triggers: &Triggers,
-    sent: &mut Vec<Sent>,
+    sent: &mut SentList,
 ) -> Result<u32, NoMemory>
     ensures count { IfOk result (λ count. count ≡ mark.now.sent + (if mark.now.opened then 1 else 0)) }
-    ensures sent { IfOk result (λ count. sent.new.items ≡ sent.old.items ++
+    ensures sent { IfOk result (λ count. sent.new ≡ sent.old ++
         (if mark.now.opened then close_row (union triggers.now (triggers_to mark.now.nbr held.now.rows)) mark.now ∷ [] else [])) }
 {
     if !mark.opened {
@@ -71,12 +71,7 @@ fn close(
     }
     let seq = next_number(mark.sent)?;
     let triggers = held.united(triggers, mark.nbr)?;
-    sent.push(Sent {
-        to: mark.nbr,
-        session: mark.session,
-        seq,
-        triggers,
-    })?;
+    sent.push(mark.nbr, mark.session, seq, &triggers)?;
     Ok(seq)
 }
 

@@ -63,8 +63,9 @@ fn is_moved<P: Policy + Copy>(
     if listener.knows && turn.same[place] {
         return false;
     }
-    let offered = routes.offered_path(&turn.after[place].chosen, listener.nbr);
-    !same(offered, known(routes, &turn.before[place], listener))
+    let to = routes.relation_to(listener.nbr);
+    let offered = routes.path_for(&turn.after[place].chosen, to);
+    !same(offered, known(routes, &turn.before[place], listener, to))
 }
 
 // Holds back an update of each prefix whose offer to the neighbour differs from the path that it knows.

@@ -2,7 +2,7 @@
 ghost use Rattle.std.specs.Prelude.{ℕ, suc, ◌≡◌, ◌<◌, ◌∷◌, [], ◌++◌, true, None, length, map, option_map, if◌then◌else◌, List, IfOk};
 ghost use Rattle.std.specs.Option.{option_copied};
 ghost use Rattle.topology.specs.Lists.{has, same_nodes, same_path};
-ghost use Rattle.topology.specs.Net.{Net, neighbours};
+ghost use Rattle.topology.specs.Net.{Net, neighbours, relation};
 ghost use Rattle.path_vector.specs.Standing.{StandsFor};
 ghost use Rattle.path_vector.specs.History.{History};
 ghost use Rattle.path_vector.specs.Selection.{best};
@@ -23,7 +23,7 @@ use crate::outgoing::{Outgoing, forget};
 use crate::pending_list::is_to;
 use path_vector::{Cause, Policy, RouteState};
 use std::alloc::Global;
-use topology::{Item, NoMemory, NodeId, Path, Pending, PrefixId, Sent, Session, Triggers};
+use topology::{Item, NoMemory, NodeId, Path, Pending, PrefixId, Relation, SentList, Session, Triggers};
 
 fn same_slice(a: &[NodeId], b: &[NodeId]) -> bool
     ensures { result ≡ same_nodes a.now b.now }
@@ -62,7 +62,7 @@ fn copy(path: Option<&Path>) -> Result<Option<Path>, NoMemory>
 /// for the next entry.
 #[derive(Drop)]
 pub struct Said {
-    pub sent: Vec<Sent>,
+    pub sent: SentList,
     pub outgoing: Vec<Outgoing>,
     /// The path that was made last for a best route, to be used again where the next one is the same. No contract
     /// mentions it.
@@ -75,7 +75,7 @@ impl Said {
         ensures { speech_of result ≡ silence }
     {
         Said {
-            sent: Vec::new(alloc),
+            sent: SentList::new(alloc),
             outgoing: Vec::new(alloc),
             made: None,
         }
@@ -113,23 +113,24 @@ pub struct Turn<'a> {
     pub best: &'a BestRoutes,
 }
 
-/// The path that the neighbour knows; `None` if it knows no offer.
+/// The path that the neighbour knows; `None` if it knows no offer. `to` is what the neighbour is to the node.
 #[inline(always)]
 pub fn known<'a, P: Policy + Copy>(
     routes: &RouteState<P>,
     before: &'a Offer,
     listener: &Listener,
+    to: Option<Relation>,
 ) -> Option<&'a Path>
     ensures { (policy : P) (net : Net) (u : ℕ) (h now : History) → StandsFor policy net u routes.now now →
         Copies net u before.now.chosen (best (P.rules policy) net u h before.now.prefix) →
-        has (neighbours net u) listener.now.nbr ≡ true →
+        to ≡ relation net u listener.now.nbr →
         option_map (λ path. path.now) result
         ≡ (if listener.now.knows then offer (P.rules policy) net u h before.now.prefix listener.now.nbr else None) }
 {
     if !listener.knows {
         return None;
     }
-    routes.offered_path(&before.chosen, listener.nbr)
+    routes.path_for(&before.chosen, to)
 }
 
 // Lists one more update. Returns its number.
@@ -143,23 +144,16 @@ fn say(
     said: &mut Said,
 ) -> Result<u32, NoMemory>
     ensures count { IfOk result (λ seq. seq ≡ suc count) }
-    ensures sent { IfOk result (λ seq. said.new.sent.items
-        ≡ said.old.sent.items ++ record { to = listener.now.nbr; session = listener.now.session; seq = seq; triggers = triggers.now } ∷ []) }
+    ensures sent { IfOk result (λ seq. said.new.sent
+        ≡ said.old.sent ++ record { to = listener.now.nbr; session = listener.now.session; seq = seq; triggers = triggers.now } ∷ []) }
     ensures outgoing { IfOk result (λ seq. map going_of said.new.outgoing.items
         ≡ map going_of said.old.outgoing.items ++ update_going listener.now seq (record { prefix = prefix; triggers = triggers.now; path = option_copied path.entry }) ∷ []) }
 {
     let seq = next_number(count)?;
     let path = copy(path)?;
-    let listed = triggers.copy()?;
     let carried = triggers.copy()?;
+    said.sent.push(listener.nbr, listener.session, seq, triggers)?;
     // Reserve first, as in `KeptEntries::push`.
-    said.sent.reserve(1)?;
-    said.sent.push_reserved(Sent {
-        to: listener.nbr,
-        session: listener.session,
-        seq,
-        triggers: listed,
-    });
     said.outgoing.reserve(1)?;
     said.outgoing.push_reserved(Outgoing {
         to: listener.nbr,
@@ -192,6 +186,7 @@ pub fn tell<P: Policy + Copy>(
         TellsUpdates listener.now (updates_over (making (P.rules policy) net u h k) listener.now.knows listener.now.nbr (prefixes_of turn.now.after.now))
         (speech_of said.old) (speech_of said.new) count) }
 {
+    let to = routes.relation_to(listener.nbr);
     let mut count = listener.sent;
     for i in 0..turn.after.len() {
         if listener.knows && turn.same[i] {
@@ -199,8 +194,8 @@ pub fn tell<P: Policy + Copy>(
         }
         let offer = &turn.after[i];
         let before = &turn.before[i];
-        let offered = routes.offered_path(&offer.chosen, listener.nbr);
-        if same(offered, known(routes, before, listener)) {
+        let offered = routes.path_for(&offer.chosen, to);
+        if same(offered, known(routes, before, listener, to)) {
             continue;
         }
         count = say(listener, count, offer.prefix, turn.triggers, offered, said)?;
@@ -234,8 +229,8 @@ fn tell_row<P: Policy + Copy>(
     said: &mut Said,
 ) -> Result<u32, NoMemory>
     ensures count { IfOk result (λ seq. seq ≡ suc count) }
-    ensures sent { IfOk result (λ seq. said.new.sent.items
-        ≡ said.old.sent.items ++ record { to = listener.now.nbr; session = listener.now.session; seq = seq; triggers = row.now.triggers } ∷ []) }
+    ensures sent { IfOk result (λ seq. said.new.sent
+        ≡ said.old.sent ++ record { to = listener.now.nbr; session = listener.now.session; seq = seq; triggers = row.now.triggers } ∷ []) }
     ensures outgoing { IfOk result (λ seq. (policy : P) (net : Net) (u : ℕ) (now : History) →
         StandsFor policy net u routes.now now → KeepsRoutes net u (best (P.rules policy) net u now) kept.now →
         has (neighbours net u) listener.now.nbr ≡ true → row.now.prefix < length net.prefixes →

@@ -309,7 +309,7 @@ impl<P: Policy + Copy> NodeLog<P> {
             &mut self.said,
         )?;
         hold_back(&self.routes, &self.sessions, &turn, &mut self.held_back)?;
-        let sent = SentItems::of(self.alloc, &self.said.sent)?;
+        let sent = SentItems::of_list(self.alloc, &self.said.sent)?;
         self.keep(Entry {
             triggers,
             scope,
