@@ -3,7 +3,6 @@ use Rattle.std.specs.Prelude.{map}
 use Rattle.topology.specs.AlikeLists.{unpacked}
 use Rattle.topology.specs.declared.names.Trigger.{Trigger}
 use Rattle.topology.specs.declared.alike_sent.ShortSent.{ShortSent}
-use Rattle.topology.specs.declared.items.Sent.{Sent}
 use Rattle.topology.proofs.Listing.{one_more, none_left}
 use Rattle.topology.proofs.sent_list.SentList.push.Goals as goal
 
