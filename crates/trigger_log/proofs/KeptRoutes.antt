@@ -1,12 +1,11 @@
 -- The kept routes, from entry to entry.
-use Rattle.std.proofs.Common.{ℕ, zero, suc, ◌+◌, ◌<◌, ◌≤◌, Bool, true, false, cond, ◌==◌, ◌||◌, nat_lt, Option, Some, None, List, [], ◌∷◌, ◌≡◌, ◌≢◌, refl, sym, ◌∙◌, ap, subst, arith, length, map, filter, drop, take, ◌-◌, sub-one, set, slice_get, slice_index_or, ⊎_elim}
+use Rattle.std.proofs.Common.{ℕ, zero, suc, ◌+◌, ◌<◌, ◌≤◌, Bool, true, false, cond, ◌==◌, ◌||◌, nat_lt, Option, Some, None, List, [], ◌∷◌, ◌≡◌, ◌≢◌, refl, sym, ◌∙◌, ap, subst, arith, length, filter, drop, take, ◌-◌, sub-one, set, slice_get, slice_index_or}
 use Rattle.std.specs.List.{AllByRecursion, range_with_len}
 use Rattle.std.specs.Prelude.{if◌then◌else◌, is_some, IfNone}
-use Rattle.std.proofs.lemmas.Bool.{cases_eq}
 use Rattle.std.proofs.lemmas.Bool.Decides.{nat_tests}
 use Rattle.std.proofs.lemmas.List.{length-map, take_all}
 use Rattle.std.proofs.lemmas.List.FromFn.{length-range_with_len}
-use Rattle.std.proofs.lemmas.Option.{same_Some, slice_get_read}
+use Rattle.std.proofs.lemmas.Option.{same_Some}
 use Rattle.topology.specs.declared.names.Scope.{Scope}
 use Rattle.topology.specs.declared.names.Scope.TheVariants.{One, All, Nothing}
 use Rattle.topology.specs.Lists.{has}
@@ -14,7 +13,7 @@ use Rattle.topology.specs.Net.{Net, IsValid, places}
 use Rattle.path_vector.specs.declared.causes.Cause.{Cause}
 use Rattle.path_vector.specs.declared.causes.Cause.TheVariants.{Originate, Withdraw, Recv, Down, Up, Ready, Prefer, Flush}
 use Rattle.path_vector.specs.Rules.{Rules, IsRanking}
-use Rattle.path_vector.specs.History.{Change, History, Scoped, change, concerns, highest, last}
+use Rattle.path_vector.specs.History.{Change, History, Scoped, change, concerns, last}
 use Rattle.path_vector.specs.Selection.{Route, best}
 use Rattle.path_vector.specs.Answers.{Copies}
 use Rattle.path_vector.proofs.Changes.{concerning_off}
@@ -23,9 +22,9 @@ use Rattle.path_vector.proofs.Opening.{best_same}
 use Rattle.trigger_log.specs.declared.best_routes.BestRoutes.{BestRoutes}
 use Rattle.trigger_log.specs.declared.offers.Offer.{Offer}
 use Rattle.trigger_log.specs.BestRoutes.{KeepsRoutes}
-use Rattle.trigger_log.specs.Entries.{Entry, entry, reads}
+use Rattle.trigger_log.specs.Entries.{Entry, reads}
 use Rattle.trigger_log.specs.Fits.{CauseFits, Fits}
-use Rattle.trigger_log.specs.Offered.{AreChosen, asked, goes_by, prefixes_of}
+use Rattle.trigger_log.specs.Offered.{asked, goes_by, prefixes_of}
 use Rattle.trigger_log.specs.Quiet.{Stays}
 use Rattle.trigger_log.proofs.Ended.{best_stays}
 use Rattle.trigger_log.proofs.Holding.{highest_is_last, scoped}

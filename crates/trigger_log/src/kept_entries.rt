@@ -1,5 +1,5 @@
 //! The entries that a log keeps, and the routes after the entries that it dropped.
-ghost use Rattle.std.specs.Prelude.{ℕ, suc, ◌≡◌, ◌≤◌, ◌-◌, [], ◌∷◌, ◌++◌, List, drop, fold, length, IfOk, OnOk, OnErr};
+ghost use Rattle.std.specs.Prelude.{ℕ, suc, ◌≡◌, ◌<◌, ◌≤◌, ◌-◌, [], ◌∷◌, ◌++◌, List, drop, fold, length, IfOk, OnOk, OnErr, vec_len, vec_capacity};
 ghost use Rattle.topology.specs.Net.{Net};
 ghost use Rattle.path_vector.specs.History.{History, change};
 ghost use Rattle.path_vector.specs.Parts.{Accepted};
@@ -29,6 +29,19 @@ pub struct KeptEntries<P: Policy + Copy> {
     from: u32,
     next: u32,
     entries: Vec<Entry>,
+}
+
+// Makes room for one more entry. Mostly there is room already.
+#[inline(always)]
+fn make_room(entries: &mut Vec<Entry>) -> Result<(), NoMemory>
+    ensures items { entries.new.items ≡ entries.old.items }
+    ensures room { OnOk result (vec_len entries.new < vec_capacity entries.new) }
+{
+    if entries.len() < entries.capacity() {
+        return Ok(());
+    }
+    entries.reserve(1)?;
+    Ok(())
 }
 
 // Applies the entries to the routes.
@@ -110,7 +123,7 @@ impl<P: Policy + Copy> KeptEntries<P> {
     {
         let next = next_number(self.next)?;
         // Reserve first, so that nothing can fail later. A push that may fail would copy the entry to give it back.
-        self.entries.reserve(1)?;
+        make_room(&mut self.entries)?;
         self.entries.push_reserved(entry);
         self.next = next;
         Ok(())

@@ -26,7 +26,7 @@ returns-then-ends_with g c = λ policy net u h k w enters holds near says.
     let all = union c.args.turn.now.triggers.now (triggers_to mark.nbr c.args.held.now.rows) in
     let joined : all ≡ close_list rules net u h k w =
     ap₂ (λ ts v. union ts (triggers_to v c.args.held.now.rows)) (sym enters.lists) says.nbr ∙ closed_together rules net u h w c.args.held.now holds enters.stands.valid near k enters.fitting ends in
-    spoken_closed rules net u h k w c.in_ok-close.field-0 mark (speech_of c.args.said.now) c.close.new.sent.items all
+    spoken_closed rules net u h k w c.in_ok-close.field-0 mark (speech_of c.args.said.now) c.close.new.sent all
     enters.fitting ends joined says c.in_ok-close.ensures.count c.in_ok-close.ensures.sent
 
 pub returns-then-not-is_ready : goal.returns-then-not-is_ready

@@ -29,6 +29,7 @@ pub returns : goal.returns
 unfolding offered_route
 returns g c = λ policy net u h k there stands before after near at.
     let rules = g.P.Policy.rules policy in
+    let to = c.relation_to-to.ensures policy net u (k.read ∷ reads h) stands near in
     let turn = c.args.turn.now in
     let l = c.args.listener.now in
     let i = c.args.place in
@@ -37,9 +38,9 @@ returns g c = λ policy net u h k there stands before after near at.
     let o = c.index-turn-place.result in
     let b = slice_index_or turn.before.now i c.index-turn-place-2.result in
     let is_b : b ≡ slice_index_or turn.before.now i b = ap (slice_index_or turn.before.now i) c.index-turn-place-2.is in
-    let offered = c.offered_path-offered.ensures policy net u (k.read ∷ reads h) (best rules net u (k.read ∷ reads h) o.prefix) stands (chosen_in rules net u (k.read ∷ reads h) turn.after.now i o after inside c.index-turn-place.is) near in
-    let knew = c.known.ensures policy net u (reads h) (k.read ∷ reads h) stands (chosen_at rules net u (reads h) turn.before.now i b before (omega arith) is_b) near in
-    let same = differs_is rules net u h k l.knows l.nbr o.prefix b.prefix (option_copied c.offered_path-offered.result) (option_copied c.known.result) c.same.result c.same.ensures offered knew
+    let offered = c.path_for-offered.ensures policy net u l.nbr (k.read ∷ reads h) (best rules net u (k.read ∷ reads h) o.prefix) stands (chosen_in rules net u (k.read ∷ reads h) turn.after.now i o after inside c.index-turn-place.is) to in
+    let knew = c.known.ensures policy net u (reads h) (k.read ∷ reads h) stands (chosen_at rules net u (reads h) turn.before.now i b before (omega arith) is_b) to in
+    let same = differs_is rules net u h k l.knows l.nbr o.prefix b.prefix (option_copied c.path_for-offered.result) (option_copied c.known.result) c.same.result c.same.ensures offered knew
     (same_prefix_at turn.before.now turn.after.now i b o c.requires.same_prefixes inside is_b c.index-turn-place.is) in
     let is_o : there ≡ o = same_Some there o (sym at ∙ slice_get_read turn.after.now (length turn.after.now) i o refl inside c.index-turn-place.is) in
     sym (ap (λ (x : Offer). differs (making rules net u h k) l.knows l.nbr x.prefix) is_o ∙ same)

@@ -6,4 +6,4 @@ pub returns : goal.returns
 unfolding offered_route
 returns g c = λ policy net u h now stands copies near.
     rw c.if-not-listener.false
-    (c.offered_path.ensures policy net u now (best (g.P.Policy.rules policy) net u h c.args.before.now.prefix) stands copies near)
+    (c.path_for.ensures policy net u c.args.listener.now.nbr now (best (g.P.Policy.rules policy) net u h c.args.before.now.prefix) stands copies near)

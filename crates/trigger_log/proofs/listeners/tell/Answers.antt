@@ -34,6 +34,7 @@ pub loop-i-preserved-then-same : goal.loop-i-preserved-then-same
 unfolding offered_route
 loop-i-preserved-then-same g c = λ policy net u h k stands lists before after near.
     let rules = g.P.Policy.rules policy in
+    let to = c.relation_to-to.ensures policy net u (k.read ∷ reads h) stands near in
     let turn = c.args.turn.now in
     let l = c.args.listener.now in
     let i = c.loop-i.i in
@@ -42,9 +43,9 @@ loop-i-preserved-then-same g c = λ policy net u h k stands lists before after n
     let o = c.index-turn-i.result in
     let b = slice_index_or turn.before.now i c.index-turn-i-in-loop-i.result in
     let is_b : b ≡ slice_index_or turn.before.now i b = ap (slice_index_or turn.before.now i) c.index-turn-i-in-loop-i.is in
-    let offered = c.offered_path-offered.ensures policy net u (k.read ∷ reads h) (best rules net u (k.read ∷ reads h) o.prefix) stands (chosen_in rules net u (k.read ∷ reads h) turn.after.now i o after inside c.index-turn-i.is) near in
-    let knew = c.known.ensures policy net u (reads h) (k.read ∷ reads h) stands (chosen_at rules net u (reads h) turn.before.now i b before (omega arith) is_b) near in
-    let same = differs_is rules net u h k l.knows l.nbr o.prefix b.prefix (option_copied c.offered_path-offered.result) (option_copied c.known.result) true c.if-same.ensures offered knew
+    let offered = c.path_for-offered.ensures policy net u l.nbr (k.read ∷ reads h) (best rules net u (k.read ∷ reads h) o.prefix) stands (chosen_in rules net u (k.read ∷ reads h) turn.after.now i o after inside c.index-turn-i.is) to in
+    let knew = c.known.ensures policy net u (reads h) (k.read ∷ reads h) stands (chosen_at rules net u (reads h) turn.before.now i b before (omega arith) is_b) to in
+    let same = differs_is rules net u h k l.knows l.nbr o.prefix b.prefix (option_copied c.path_for-offered.result) (option_copied c.known.result) true c.if-same.ensures offered knew
     (same_prefix_at turn.before.now turn.after.now i b o c.requires.same_prefixes inside is_b c.index-turn-i.is) in
     subst (λ list. TellsUpdates l list (speech_of c.args.said.now) (speech_of c.loop-i.said) c.loop-i.count)
     (sym (over_same rules net u h k l.knows l.nbr (prefixes_of turn.after.now) i o.prefix (prefix_at turn.after.now i o inside c.index-turn-i.is) (omega (arith, length-map turn.after.now (λ (o : Offer). o.prefix))) same))
@@ -54,6 +55,7 @@ pub loop-i-preserved : goal.loop-i-preserved
 unfolding offered_route
 loop-i-preserved g c = λ policy net u h k stands lists before after near.
     let rules = g.P.Policy.rules policy in
+    let to = c.relation_to-to.ensures policy net u (k.read ∷ reads h) stands near in
     let turn = c.args.turn.now in
     let l = c.args.listener.now in
     let i = c.loop-i.i in
@@ -62,17 +64,17 @@ loop-i-preserved g c = λ policy net u h k stands lists before after near.
     let o = c.index-turn-i.result in
     let b = slice_index_or turn.before.now i c.index-turn-i-in-loop-i.result in
     let is_b : b ≡ slice_index_or turn.before.now i b = ap (slice_index_or turn.before.now i) c.index-turn-i-in-loop-i.is in
-    let offered = c.offered_path-offered.ensures policy net u (k.read ∷ reads h) (best rules net u (k.read ∷ reads h) o.prefix) stands (chosen_in rules net u (k.read ∷ reads h) turn.after.now i o after inside c.index-turn-i.is) near in
-    let knew = c.known.ensures policy net u (reads h) (k.read ∷ reads h) stands (chosen_at rules net u (reads h) turn.before.now i b before (omega arith) is_b) near in
-    let other = differs_is rules net u h k l.knows l.nbr o.prefix b.prefix (option_copied c.offered_path-offered.result) (option_copied c.known.result) false c.if-same.ensures offered knew
+    let offered = c.path_for-offered.ensures policy net u l.nbr (k.read ∷ reads h) (best rules net u (k.read ∷ reads h) o.prefix) stands (chosen_in rules net u (k.read ∷ reads h) turn.after.now i o after inside c.index-turn-i.is) to in
+    let knew = c.known.ensures policy net u (reads h) (k.read ∷ reads h) stands (chosen_at rules net u (reads h) turn.before.now i b before (omega arith) is_b) to in
+    let other = differs_is rules net u h k l.knows l.nbr o.prefix b.prefix (option_copied c.path_for-offered.result) (option_copied c.known.result) false c.if-same.ensures offered knew
     (same_prefix_at turn.before.now turn.after.now i b o c.requires.same_prefixes inside is_b c.index-turn-i.is) in
     let list = updates_over (making rules net u h k) l.knows l.nbr (take i (prefixes_of turn.after.now)) in
     let more = tells_more l list (update_of (making rules net u h k) l.nbr o.prefix)
     (speech_of c.args.said.now) (speech_of c.loop-i.said) (speech_of c.say.new.said) c.loop-i.count c.in_ok-count.count
     c.in_ok-count.ensures.count
-    (c.in_ok-count.ensures.sent ∙ ap (λ ts. c.loop-i.said.sent.items ++ record { to = l.nbr; session = l.session; seq = c.in_ok-count.count; triggers = ts } ∷ []) (sym lists))
+    (c.in_ok-count.ensures.sent ∙ ap (λ ts. c.loop-i.said.sent ++ record { to = l.nbr; session = l.session; seq = c.in_ok-count.count; triggers = ts } ∷ []) (sym lists))
     (c.in_ok-count.ensures.outgoing ∙ ap (λ (x : Update). map going_of c.loop-i.said.outgoing.items ++ update_going l c.in_ok-count.count x ∷ [])
-    (same_update (slice_index_or turn.after.now i o).prefix o.prefix turn.triggers.now k.triggers (option_copied c.offered_path-offered.result) (offer rules net u (k.read ∷ reads h) o.prefix l.nbr)
+    (same_update (slice_index_or turn.after.now i o).prefix o.prefix turn.triggers.now k.triggers (option_copied c.path_for-offered.result) (offer rules net u (k.read ∷ reads h) o.prefix l.nbr)
     (ap (λ (x : Offer). x.prefix) (sym c.index-turn-i.is)) (sym lists) offered))
     (c.loop-i.invariant policy net u h k stands lists before after near) in
     subst (λ list. TellsUpdates l list (speech_of c.args.said.now) (speech_of c.say.new.said) c.in_ok-count.count)

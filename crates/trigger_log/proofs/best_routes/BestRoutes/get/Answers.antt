@@ -1,4 +1,4 @@
-use Rattle.std.proofs.Common.{◌≡◌, ◌≤◌, ◌∙◌, Some, ap, arith, length, nat_lt, slice_get, subst}
+use Rattle.std.proofs.Common.{◌≡◌, ◌∙◌, Some, ap, arith, length, nat_lt, slice_get, subst}
 use Rattle.trigger_log.proofs.KeptRoutes.{at_prefix, not_there, width}
 use Rattle.trigger_log.proofs.Reading.{got, if_some}
 use Rattle.trigger_log.proofs.best_routes.BestRoutes.get.Goals as goal
