@@ -87,6 +87,24 @@ fn place_for<P: Policy>(
     sorted.len()
 }
 
+// Inserts the candidate at this place. Most go to the end, where none has to move.
+#[inline(always)]
+fn put_at<'a>(
+    sorted: &mut Vec<RankedCandidate<'a>>,
+    place: usize,
+    one: RankedCandidate<'a>,
+) -> Result<(), NoMemory>
+    requires { place ≤ length sorted.old.items }
+    ensures { OnOk result (sorted.new.items ≡ insert sorted.old.items place one.entry) }
+{
+    if place == sorted.len() {
+        sorted.push(one)?;
+        return Ok(());
+    }
+    sorted.insert(place, one)?;
+    Ok(())
+}
+
 /// Puts the candidates of these neighbours for a prefix into the list, by rank, in the place of what it had.
 pub(crate) fn put_by_rank<'a, P: Policy>(
     policy: &P,
@@ -101,7 +119,7 @@ pub(crate) fn put_by_rank<'a, P: Policy>(
     for neighbour in neighbours {
         if let Some(one) = RankedCandidate::of(neighbour, prefix) {
             let place = place_for(policy, sorted, &one);
-            sorted.insert(place, one)?;
+            put_at(sorted, place, one)?;
         }
     }
     Ok(())
