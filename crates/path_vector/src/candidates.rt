@@ -27,6 +27,14 @@ impl Model for Candidate {
     ghost invariant = { λ c. has c.told c.node ≡ false };
 }
 
+// Whether the node is on the path. It is short, so a loop in place takes less than a call.
+#[inline(always)]
+fn is_on(nodes: &[NodeId], node: NodeId) -> bool
+    ensures { result ≡ has nodes.now node }
+{
+    nodes.iter().any(|other| *other == node)
+}
+
 // Whether both lists have the same nodes. They are short, so a loop takes less than the comparison of slices.
 fn are_same(nodes: &[NodeId], others: &[NodeId]) -> bool
     ensures { IsTrue result → nodes.now ≡ others.now }
@@ -61,7 +69,7 @@ impl Candidate {
     pub(crate) fn of(node: NodeId, path: &Path) -> Result<Option<Candidate>, NoMemory>
         ensures { IfOk result (λ c. c ≡ (if has path.now node then None else Some (node ∷ path.now))) }
     {
-        if path.nodes().contains(&node) {
+        if is_on(path.nodes(), node) {
             return Ok(None);
         }
         Ok(Some(Candidate {
