@@ -196,7 +196,7 @@ fn nothing_told(alloc: Global, prefixes: u16) -> Result<Vec<Option<Candidate>>, 
 {
     let mut told = Vec::with_capacity(alloc, prefixes as usize)?;
     for _prefix in 0..prefixes {
-        told.push(None)?;
+        told.push_reserved(None);
     }
     Ok(told)
 }
@@ -206,7 +206,7 @@ fn copy_row(told: &Vec<Option<Candidate>>) -> Result<Vec<Option<Candidate>>, NoM
 {
     let mut copy = Vec::with_capacity(*told.allocator(), told.len())?;
     for candidate in told {
-        copy.push(copy_candidate(candidate)?)?;
+        copy.push_reserved(copy_candidate(candidate)?);
     }
     Ok(copy)
 }
