@@ -17,7 +17,7 @@ same_read [] i a b l = absurd (omega (arith, l))
 same_read (x ∷ xs) zero a b l = refl
 same_read (x ∷ xs) (suc i) a b l = same_read xs i a b (omega (arith, l))
 
-past_read : (xs : List ℕ) (i a : ℕ) → length xs ≤ i → get_or xs i a ≡ a
+pub past_read : (xs : List ℕ) (i a : ℕ) → length xs ≤ i → get_or xs i a ≡ a
 past_read [] i a l = refl
 past_read (x ∷ xs) zero a l = absurd (omega (arith, l))
 past_read (x ∷ xs) (suc i) a l = past_read xs i a (omega (arith, l))
@@ -131,7 +131,7 @@ module _ (words others : List ℕ) (numbers : ℕ → Bool) (are : (number : ℕ
 abbrev pub zeros : ℕ → List ℕ
 zeros n = replicate n 0
 
-zeros_read : (n i : ℕ) → get_or (zeros n) i zero ≡ zero
+pub zeros_read : (n i : ℕ) → get_or (zeros n) i zero ≡ zero
 zeros_read zero i = refl
 zeros_read (suc n) zero = refl
 zeros_read (suc n) (suc i) = zeros_read n i

@@ -8,5 +8,7 @@ mod Again
 pub mod Standing
 mod Fresh
 mod Bits
+mod Filled
 mod Marked
 mod Pushing
+mod Taking

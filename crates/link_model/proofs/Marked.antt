@@ -2,8 +2,8 @@
 use Rattle.std.proofs.Common.{ℕ, zero, suc, ◌<◌, ◌≤◌, Bool, true, false, not, ◌==◌, Some, List, [], ◌∷◌, ◌≡◌, ◌≢◌, ⊎_elim, refl, sym, ◌∙◌, ap, arith, length, get_or, set, slice_get, if◌then◌else◌}
 use Rattle.std.proofs.lemmas.Bool.{cases_eq}
 use Rattle.std.proofs.lemmas.Bool.Decides.{nat_tests}
-use Rattle.std.proofs.lemmas.List.{get_or-set_same}
 use Rattle.std.proofs.lemmas.Option.{slice_get-get_or}
+use Rattle.topology.specs.declared.items.Item.{Item}
 use Rattle.topology.specs.Net.{Net}
 use Rattle.link_model.specs.declared.links.Links.{Links}
 use Rattle.link_model.specs.Acts.{LinkActs}
@@ -46,11 +46,9 @@ not_not : (b : Bool) → not (not b) ≡ b
 not_not true = refl
 not_not false = refl
 
--- whether something is left on the changed way
-pub left_on : (ways : List OneWay) (way : ℕ) (left read : OneWay) (empty : Bool) → way < length ways → read ≡ get_or (set ways way left) way read → empty ≡ not (has_items read.items)
-    → not empty ≡ has_items left.items
-left_on ways way left read empty inside is answer =
-    ap not answer ∙ (not_not (has_items read.items) ∙ ap (λ (k : OneWay). has_items k.items) (is ∙ get_or-set_same ways way left read inside))
+-- an empty list has no items
+pub none_left : (items : List Item) (empty : Bool) → empty ≡ true → empty ≡ not (has_items items) → false ≡ has_items items
+none_left items empty test answer = ap not (sym test ∙ answer) ∙ not_not (has_items items)
 
 -- the mark of a way
 pub marked_at : (net : Net) (links : Links) (acts : LinkActs) (from to way : ℕ) → length links.channels.items ≡ length links.table → StandsFor net links acts → IsPlaced links from to way

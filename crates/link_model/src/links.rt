@@ -255,8 +255,12 @@ impl Links {
             IsPlaced self.old from to way → channel_after from to acts ≡ []) }
         ensures unchanged { IfNone result (self.new ≡ self.old) }
     {
-        let item = self.channels[way].pop_front()?;
-        self.busy.put(way, !self.channels[way].is_empty());
+        let channel = &mut self.channels[way];
+        let item = channel.pop_front()?;
+        if !channel.is_empty() {
+            return Some(item);
+        }
+        self.busy.put(way, false);
         Some(item)
     }
 }

@@ -1,5 +1,6 @@
 //! Sets of ways.
-ghost use Rattle.std.specs.Prelude.{ℕ, ◌≡◌, ◌<◌, ◌==◌, false, length, IfOk, IfSome, IfNone, if◌then◌else◌};
+ghost use Rattle.std.specs.Prelude.{ℕ, ◌≡◌, ◌<◌, ◌==◌, false, length, IfOk, IfSome, IfNone, if◌then◌else◌, slice_index};
+ghost use Rattle.std.specs.Int.{bit_at};
 ghost use Rattle.link_model.specs.declared.way_set.TheConstants.{MOST_WAYS};
 
 use std::alloc::Global;
@@ -15,7 +16,10 @@ const WORDS: usize = 64;
 #[derive(Drop)]
 pub struct WaySet {
     words: Vec<u64>,
+    // A bit for each word; where it is 0, the word is 0.
+    filled: u64,
     ghost full: { length words.items ≡ 64 },
+    ghost known: { (place : ℕ) → place < 64 → bit_at filled place ≡ 0 → slice_index words.items place ≡ 0 },
 }
 
 impl WaySet {
@@ -27,6 +31,7 @@ impl WaySet {
     {
         Ok(WaySet {
             words: vec![in alloc; 0; WORDS]?,
+            filled: 0,
         })
     }
 
@@ -39,8 +44,12 @@ impl WaySet {
         let bit = 1u64 << (number % 64);
         if is {
             self.words[place] |= bit;
-        } else {
-            self.words[place] &= !bit;
+            self.filled |= 1u64 << place;
+            return;
+        }
+        self.words[place] &= !bit;
+        if self.words[place] == 0 {
+            self.filled &= !(1u64 << place);
         }
     }
 
@@ -57,7 +66,11 @@ impl WaySet {
         ensures some { IfSome result (IsLowest (has_both self.now other.now)) }
         ensures none { IfNone result ((number : ℕ) → has_both self.now other.now number ≡ false) }
     {
-        for place in 0..WORDS {
+        let filled = self.filled & other.filled;
+        if filled == 0 {
+            return None;
+        }
+        for place in filled.trailing_zeros() as usize..WORDS {
             let word = self.words[place] & other.words[place];
             if word != 0 {
                 return Some(place * 64 + word.trailing_zeros() as usize);
