@@ -201,6 +201,7 @@ few_ways net valid =
 
 pub tabled : (net : Net) (nodes : List ℕ) (rows : List (List (Option ℕ))) (ways : List Way) → IsValid net → nodes ≡ ascending net.nodes → rows ≡ rows_from net 0 (ascending net.nodes) → ways ≡ ways_of net → IsTabled nodes rows ways
 tabled net nodes rows ways valid n r w = rw (n, r, w) (record {
+  rises = increasing_ascending net.nodes valid.nodes_differ;
   wide = length-rows net 0 (ascending net.nodes);
   right = λ i j u v way e f h.
       let is = rows_right net 0 (ascending net.nodes) i j u v way e f h in
@@ -214,17 +215,19 @@ tabled net nodes rows ways valid n r w = rw (n, r, w) (record {
 })
 
 -- a way has one number
+pub one_way : (nodes : List ℕ) (rows : List (List (Option ℕ))) (ways : List Way) (u v i j : ℕ) → IsTabled nodes rows ways → slice_get ways i ≡ Some (ends u v) → slice_get ways j ≡ Some (ends u v) → i ≡ j
+one_way nodes rows ways u v i j table e f =
+    let a = table.found u v i e in
+    let b = table.found u v j f in
+    let sender = one_place nodes a.sender b.sender u table.rises a.from b.from in
+    let receiver = one_place nodes a.receiver b.receiver v table.rises a.to b.to in
+    same_some i j (sym a.here ∙ (ap (λ s. cell rows s a.receiver) sender ∙ (ap (cell rows b.sender) receiver ∙ b.here)))
+
 pub one_number : (net : Net) (u v i j : ℕ) → IsValid net → slice_get (ways_of net) i ≡ Some (ends u v) → slice_get (ways_of net) j ≡ Some (ends u v) → i ≡ j
 one_number net u v i j valid e f =
     let nodes = ascending net.nodes in
     let rows = rows_from net 0 nodes in
-    let table = tabled net nodes rows (ways_of net) valid refl refl refl in
-    let rises = increasing_ascending net.nodes valid.nodes_differ in
-    let a = table.found u v i e in
-    let b = table.found u v j f in
-    let sender = one_place nodes a.sender b.sender u rises a.from b.from in
-    let receiver = one_place nodes a.receiver b.receiver v rises a.to b.to in
-    same_some i j (sym a.here ∙ (ap (λ s. cell rows s a.receiver) sender ∙ (ap (cell rows b.sender) receiver ∙ b.here)))
+    one_way nodes rows (ways_of net) u v i j (tabled net nodes rows (ways_of net) valid refl refl refl) e f
 
 -- ---- each link has a number
 

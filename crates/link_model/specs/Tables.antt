@@ -1,5 +1,6 @@
 -- The numbers of a network's ways, and the tables to look them up.
 use Rattle.std.specs.Prelude.{ℕ, suc, zero, ◌≡◌, ◌≤◌, ◌+◌, Bool, Option, Some, None, List, [], ◌∷◌, map, flat_map, length, slice_get, if◌then◌else◌}
+use Rattle.std.specs.List.Sorted.{IsStrictlyIncreasing}
 use Rattle.topology.specs.Lists.{ascending}
 use Rattle.topology.specs.Net.{Net, linked, neighbours}
 use Rattle.topology.specs.declared.ways.Way.{Way}
@@ -43,6 +44,7 @@ pub record IsCell (nodes : List ℕ) (rows : List (List (Option ℕ))) (u v way 
 
 -- the rows have the number of each way, at the ranks of its two ends
 pub record IsTabled (nodes : List ℕ) (rows : List (List (Option ℕ))) (ways : List Way) : Type 0 where
+  pub rises : IsStrictlyIncreasing nodes
   pub wide : length rows ≡ length nodes
   pub right : (i j u v way : ℕ) → slice_get nodes i ≡ Some u → slice_get nodes j ≡ Some v
       → cell rows i j ≡ Some way → slice_get ways way ≡ Some (ends u v)

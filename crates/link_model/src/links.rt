@@ -25,6 +25,8 @@ pub struct Links {
     channels: Vec<Channel>,
     // The ways on which something is.
     busy: WaySet,
+    // A guess at the number of the way of the next item that is sent.
+    likely: usize,
     ghost sized: { length channels.items ≡ length table },
     ghost few: { length table ≤ MOST_WAYS },
     ghost marked: { (number : ℕ) → has_number busy number ≡ holds_some (slice_get channels.items number) },
@@ -57,6 +59,7 @@ impl Links {
             table,
             channels,
             busy: WaySet::new(alloc)?,
+            likely: 0,
         })
     }
 
@@ -70,6 +73,17 @@ impl Links {
         ensures few { IfSome result (λ way. way < MOST_WAYS) }
     {
         self.table.way_of(from, to)
+    }
+
+    // As `way_of`, and quicker where the guess is right. The items of an entry go to its neighbours in ascending order.
+    #[inline(always)]
+    fn likely_way(&self, from: NodeId, to: NodeId) -> Option<usize>
+        ensures some { IfSome result (λ way. IsPlaced self.now from to way) }
+        ensures none { IfNone result ((net : Net) (ways : Ways) → Keeps net self.now ways →
+            linked net from to ≡ false) }
+        ensures few { IfSome result (λ way. way < MOST_WAYS) }
+    {
+        self.table.way_near(from, to, self.likely)
     }
 
     /// The way with this number. The answer is `None` exactly where no way has it.
@@ -135,10 +149,11 @@ impl Links {
             StandsFor net self.new (Push from to session item ∷ acts)) }
         ensures err { OnErr result (self.new ≡ self.old) }
     {
-        let Some(way) = self.way_of(from, to) else {
+        let Some(way) = self.likely_way(from, to) else {
             return Ok(false);
         };
         let queued = self.channels[way].push(session, item)?;
+        self.likely = way + 1;
         if queued {
             self.busy.put(way, true);
         }

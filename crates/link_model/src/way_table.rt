@@ -122,4 +122,29 @@ impl WayTable {
         let receiver = self.ranks.rank(to)?;
         entry(&self.rows[sender], receiver)
     }
+
+    // As `way_of`, in a call of its own, as few guesses are wrong.
+    #[inline(never)]
+    fn look_up(&self, from: NodeId, to: NodeId) -> Option<usize>
+        ensures some { IfSome result (λ way. slice_get self.now way ≡ Some (ends from to)) }
+        ensures found { (way : ℕ) → slice_get self.now way ≡ Some (ends from to) → result ≡ Some way }
+        ensures few { IfSome result (λ way. way < MOST_WAYS) }
+    {
+        self.way_of(from, to)
+    }
+
+    /// As `way_of`, with a guess at the number, which saves the look-up where it is right.
+    #[inline(always)]
+    pub fn way_near(&self, from: NodeId, to: NodeId, guess: usize) -> Option<usize>
+        ensures some { IfSome result (λ way. slice_get self.now way ≡ Some (ends from to)) }
+        ensures found { (way : ℕ) → slice_get self.now way ≡ Some (ends from to) → result ≡ Some way }
+        ensures few { IfSome result (λ way. way < MOST_WAYS) }
+    {
+        if let Some(way) = self.ways.get(guess) {
+            if way.from == from && way.to == to {
+                return Some(guess);
+            }
+        }
+        self.look_up(from, to)
+    }
 }
