@@ -1,5 +1,5 @@
 //! Which nodes responded.
-ghost use Rattle.std.specs.Prelude.{ℕ, ◌≡◌, ◌<◌, ◌==◌, ◌||◌, length, IfOk, OnOk};
+ghost use Rattle.std.specs.Prelude.{ℕ, ◌≡◌, ◌<◌, ◌==◌, ◌||◌, false, length, IfOk, OnOk};
 ghost use Rattle.topology.specs.Lists.{has};
 ghost use Rattle.stable_table.specs.Flags.{is_flagged};
 ghost use Rattle.stable_table.specs.Tables.{all_responded};
@@ -41,11 +41,23 @@ fn flag(flags: &mut Vec<bool>, number: u16) -> Result<(), NoMemory>
     Ok(())
 }
 
+// A list without flags that has room for the last of the nodes. The nodes of a set ascend, so that is room for all.
+fn no_flags(alloc: Global, nodes: &[NodeId]) -> Result<Vec<bool>, NoMemory>
+    ensures { IfOk result (λ flags. (n : ℕ) → is_flagged flags.items n ≡ false) }
+{
+    let mut flags = Vec::new(alloc);
+    let Some(last) = nodes.last() else {
+        return Ok(flags);
+    };
+    lengthen(&mut flags, usize::from(last.number()))?;
+    Ok(flags)
+}
+
 // The list with a flag for each of the nodes.
 fn flags_of(alloc: Global, nodes: &[NodeId]) -> Result<Vec<bool>, NoMemory>
     ensures { IfOk result (λ flags. (n : ℕ) → is_flagged flags.items n ≡ has nodes.now n) }
 {
-    let mut flags = Vec::new(alloc);
+    let mut flags = no_flags(alloc, nodes)?;
     for node in nodes {
         flag(&mut flags, node.number())?;
     }
