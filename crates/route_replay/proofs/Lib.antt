@@ -21,6 +21,7 @@ pub mod Runs
 pub mod Shown
 pub mod Steps
 pub mod Suits
+pub mod TableLines
 pub mod Tables
 pub mod Turns
 pub mod WalkLines

@@ -16,6 +16,10 @@ use Rattle.route_replay.specs.RibText.{path_text}
 abbrev pub table_head : ℕ → ℕ → List ℕ
 table_head u e = codes "table " ++ decimal u ++ codes " " ++ decimal e
 
+-- a prefix, as it stands in its lines
+abbrev pub prefix_name : Prefix → List ℕ
+prefix_name prefix = codes " " ++ prefix_text prefix ++ codes ":"
+
 -- the path of a prefix in the table of e at u
 abbrev pub table_line : ℕ → ℕ → Prefix → Option (List ℕ) → List ℕ
 table_line u e prefix path = ended (table_head u e ++ codes " " ++ prefix_text prefix ++ codes ":" ++ path_text path)

@@ -22,6 +22,7 @@ pub mod rib_text;
 pub mod runner;
 pub mod shown_closure;
 pub mod summary;
+mod table_names;
 pub mod tables_text;
 pub mod tasks;
 pub mod views;

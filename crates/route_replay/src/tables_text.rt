@@ -2,18 +2,20 @@
 ghost use Rattle.std.specs.Prelude.{◌≡◌, ◌++◌, Some, None, option_map, IfErr, IfOk, OnOk};
 ghost use Rattle.std.specs.String.{string_bytes};
 ghost use Rattle.route_replay.specs.Gathering.{Gathers, Breaks, page_view};
+ghost use Rattle.route_replay.specs.Lines.{ended};
 ghost use Rattle.route_replay.specs.RibText.{path_text};
-ghost use Rattle.route_replay.specs.TablesText.{last_of, published_for, table_head, table_in, table_line, table_text, tables_text, unpublished_line};
+ghost use Rattle.route_replay.specs.TablesText.{last_of, published_for, table_head, table_in, table_text, tables_text, unpublished_line};
 ghost use Rattle.route_replay.specs.Past.{past_of};
 
 use crate::ends::RunEnd;
 use crate::numbers::{push_node, push_number};
 use crate::page::Page;
-use crate::rib_text::{path_words, prefix_words};
+use crate::rib_text::path_words;
+use crate::table_names::TableNames;
 use path_vector::Policy;
 use route_io::Sink;
 use std::alloc::{AllocError, Global};
-use topology::{Epoch, NoMemory, NodeId, Prefix, PrefixId, Topology};
+use topology::{Epoch, NoMemory, NodeId, PrefixId, Topology};
 use world_core::{Publication, World};
 
 // What was published for the epoch, the oldest first. The tables are shared.
@@ -76,21 +78,27 @@ fn table_path_words(out: &mut String, path: Option<&[NodeId]>) -> Result<(), All
     }
 }
 
-// The line of a prefix in the table of a node.
+// What each line of the table of a node begins with.
+fn head_of(alloc: Global, node: NodeId, epoch: Epoch) -> Result<String, AllocError>
+    ensures { IfOk result (λ head. string_bytes head ≡ table_head node epoch) }
+{
+    let mut head = String::new(alloc);
+    head_words(&mut head, node, epoch)?;
+    Ok(head)
+}
+
+// The line of a prefix in the table of a node: what it begins with, the words of the prefix, and the path.
 fn table_words(
     out: &mut String,
-    node: NodeId,
-    epoch: Epoch,
-    prefix: &Prefix,
+    head: &str,
+    name: &str,
     path: Option<&[NodeId]>,
 ) -> Result<(), AllocError>
-    ensures { OnOk result (string_bytes out.new
-        ≡ string_bytes out.old ++ table_line node epoch prefix.now (option_map (λ nodes. nodes.now) path.entry)) }
+    ensures { OnOk result (string_bytes out.new ≡ string_bytes out.old
+        ++ ended (head.now ++ name.now ++ path_text (option_map (λ nodes. nodes.now) path.entry))) }
 {
-    head_words(out, node, epoch)?;
-    out.push(' ')?;
-    prefix_words(out, prefix)?;
-    out.push(':')?;
+    out.push_str(head)?;
+    out.push_str(name)?;
     table_path_words(out, path)?;
     out.push('\n')
 }
@@ -115,21 +123,21 @@ fn add_unpublished<O: Sink>(
 // Adds the lines of the table of a node.
 fn add_table<O: Sink>(
     page: &mut Page<'_, String, O>,
-    topology: &Topology,
+    alloc: Global,
+    names: &TableNames<'_>,
     node: NodeId,
-    epoch: Epoch,
     publication: &Publication,
 ) -> Result<(), RunEnd>
     ensures gathers { OnOk result (Gathers (page_view O.seen page.old) (page_view O.seen page.new)
-        (table_text topology.now node epoch (Some (table_in publication.now)))) }
+        (table_text names.now.topology.now node names.now.epoch (Some (table_in publication.now)))) }
     ensures breaks { IfErr result (Breaks (O.seen page.old.sink.now) (O.seen page.new.sink.now)
-        (string_bytes page.old.text ++ table_text topology.now node epoch (Some (table_in publication.now)))) }
+        (string_bytes page.old.text ++ table_text names.now.topology.now node names.now.epoch (Some (table_in publication.now)))) }
     ensures same_sink { page.new.sink.ghost_name ≡ page.old.sink.ghost_name }
 {
-    for place in 0..topology.prefix_count() {
-        let id = PrefixId::new(place);
-        let prefix = topology.prefix(id).unwrap();
-        table_words(&mut page.text, node, epoch, &prefix, publication.path(id))?;
+    let head = head_of(alloc, node, names.epoch)?;
+    for place in 0..names.topology.prefix_count() {
+        let path = publication.path(PrefixId::new(place));
+        table_words(&mut page.text, head.as_str(), names.name(place), path)?;
         page.spill()?;
     }
     Ok(())
@@ -138,20 +146,21 @@ fn add_table<O: Sink>(
 // Adds the lines of a node.
 fn one_table<O: Sink>(
     page: &mut Page<'_, String, O>,
-    topology: &Topology,
-    epoch: Epoch,
+    alloc: Global,
+    names: &TableNames<'_>,
     publications: &[Publication],
     node: NodeId,
 ) -> Result<(), RunEnd>
     ensures gathers { OnOk result (Gathers (page_view O.seen page.old) (page_view O.seen page.new)
-        (table_text topology.now node epoch (option_map table_in (last_of node publications.now)))) }
+        (table_text names.now.topology.now node names.now.epoch (option_map table_in (last_of node publications.now)))) }
     ensures breaks { IfErr result (Breaks (O.seen page.old.sink.now) (O.seen page.new.sink.now)
-        (string_bytes page.old.text ++ table_text topology.now node epoch (option_map table_in (last_of node publications.now)))) }
+        (string_bytes page.old.text
+        ++ table_text names.now.topology.now node names.now.epoch (option_map table_in (last_of node publications.now)))) }
     ensures same_sink { page.new.sink.ghost_name ≡ page.old.sink.ghost_name }
 {
     match last_of(publications, node) {
-        None => add_unpublished(page, topology, node, epoch),
-        Some(publication) => add_table(page, topology, node, epoch, publication),
+        None => add_unpublished(page, names.topology, node, names.epoch),
+        Some(publication) => add_table(page, alloc, names, node, publication),
     }
 }
 
@@ -159,6 +168,7 @@ fn one_table<O: Sink>(
 #[tactic(auto, unfolding(crate::specs::TablesText::tables_text))]
 fn all_tables<P: Policy + Copy, O: Sink>(
     page: &mut Page<'_, String, O>,
+    alloc: Global,
     world: &World<P>,
     epoch: Epoch,
     publications: &[Publication],
@@ -173,8 +183,9 @@ fn all_tables<P: Policy + Copy, O: Sink>(
     ensures same_sink { page.new.sink.ghost_name ≡ page.old.sink.ghost_name }
 {
     let topology = world.topology();
+    let names = TableNames::new(alloc, topology, epoch)?;
     for node in topology.nodes() {
-        one_table(page, topology, epoch, publications, *node)?;
+        one_table(page, alloc, &names, publications, *node)?;
     }
     Ok(())
 }
@@ -195,5 +206,5 @@ pub fn add_tables<P: Policy + Copy, O: Sink>(
     ensures same_sink { page.new.sink.ghost_name ≡ page.old.sink.ghost_name }
 {
     let publications = published_in(alloc, world, epoch)?;
-    all_tables(page, world, epoch, &publications)
+    all_tables(page, alloc, world, epoch, &publications)
 }

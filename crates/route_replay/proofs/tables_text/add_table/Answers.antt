@@ -1,25 +1,15 @@
-use Rattle.std.proofs.Common.{◌≡◌, ℕ, Option, Some, List, [], ◌<◌, ◌≤◌, ◌++◌, length, get_or, slice_get, arith, refl, sym, ap, ◌∙◌, subst}
-use Rattle.std.specs.Prelude.{IsSome}
-use Rattle.std.specs.List.{enumerate_from}
+use Rattle.std.proofs.Common.{◌≡◌, ℕ, Some, List, [], ◌<◌, ◌≤◌, ◌++◌, length, get_or, arith, refl, sym, ap, ◌∙◌, subst}
 use Rattle.std.specs.String.{string_bytes}
-use Rattle.topology.specs.declared.prefixes.Prefix.{Prefix}
 use Rattle.chronicle.specs.Publications.{path_in}
 use Rattle.route_replay.specs.Gathering.{Breaks}
-use Rattle.route_replay.specs.TablesText.{table_in, table_line, table_lines}
-use Rattle.route_replay.proofs.Gathered.{handed_on, gathers_nothing, words_spilled, gathers_step, gathers_all, breaks_step, breaks_short, enumerated, line_at, line_made, line_of_element}
-use Rattle.route_replay.proofs.Shown.{length-table_lines, some_at}
+use Rattle.route_replay.specs.TablesText.{table_in, table_lines}
+use Rattle.route_replay.proofs.Gathered.{handed_on, gathers_nothing, words_spilled, gathers_step, gathers_all, breaks_step, breaks_short, line_at}
+use Rattle.route_replay.proofs.Shown.{length-table_lines}
+use Rattle.route_replay.proofs.TableLines.{line_added}
 use Rattle.route_replay.proofs.tables_text.add_table.Goals as goal
 
 abbrev as_it_is : List ℕ → List ℕ
 as_it_is line = line
-
--- there is such a prefix
-pub unwrap-prefix-requires : goal.unwrap-prefix-requires
-unwrap-prefix-requires g c =
-    let prefixes = c.args.topology.now.prefixes in
-    let place = c.loop-place.place in
-    let inside : place < length prefixes = omega (arith, c.prefix_count-place-end.ensures.count, c.loop-place-test.true) in
-    subst IsSome (ap (slice_get prefixes) (sym c.new-id.ensures) ∙ sym c.prefix.ensures) (some_at prefixes place inside)
 
 pub loop-place-init : goal.loop-place-init
 loop-place-init g c = record { gathers = gathers_nothing _; same_sink = refl }
@@ -27,18 +17,16 @@ loop-place-init g c = record { gathers = gathers_nothing _; same_sink = refl }
 -- one more line is gathered
 pub loop-place-preserved : goal.loop-place-preserved
 loop-place-preserved g c =
-    let prefixes = c.args.topology.now.prefixes in
+    let net = c.args.names.now.topology.now in
     let t = table_in c.args.publication.now in
-    let lines = table_lines c.args.topology.now c.args.node c.args.epoch (Some t) in
+    let lines = table_lines net c.args.node c.args.names.now.epoch (Some t) in
     let place = c.loop-place.place in
-    let prefix = c.unwrap-prefix.result in
-    let known : place < length prefixes = omega (arith, c.prefix_count-place-end.ensures.count, c.loop-place-test.true) in
-    let inside : place < length lines = omega (arith, known, length-table_lines c.args.topology.now c.args.node c.args.epoch t) in
-    let found : slice_get prefixes place ≡ Some prefix = ap (slice_get prefixes) (sym c.new-id.ensures) ∙ (sym c.prefix.ensures ∙ c.unwrap-prefix.ensures) in
-    let line = λ (p : ℕ × Prefix). table_line c.args.node c.args.epoch p.1 (path_in p.0 t) in
-    let path = c.path.ensures ∙ ap (λ k. path_in k t) c.new-id.ensures in
-    let words : string_bytes c.table_words.new.out ≡ string_bytes c.loop-place.page.text ++ line (place, prefix) = c.in_ok-table_words.ensures ∙ ap (λ (o : Option (List ℕ)). string_bytes c.loop-place.page.text ++ table_line c.args.node c.args.epoch prefix o) path in
-    let made = line_made lines place place _ _ inside refl (line_of_element line (enumerate_from 0 prefixes) place (place, prefix) _ _ (enumerated prefixes place prefix known found) words) in
+    let known : place < length net.prefixes = omega (arith, c.prefix_count-place-end.ensures.count, c.loop-place-test.true) in
+    let inside : place < length lines = omega (arith, known, length-table_lines net c.args.node c.args.names.now.epoch t) in
+    let begins = c.as_str.ensures.value ∙ c.in_ok-head.ensures in
+    let path = c.path-path.ensures ∙ ap (λ k. path_in k t) c.new.ensures in
+    let made : string_bytes c.table_words.new.out ≡ string_bytes c.loop-place.page.text ++ get_or lines place [] =
+    line_added net c.args.node c.args.names.now.epoch t place c.as_str.result.now c.name.result.now _ _ _ known begins c.name.ensures path c.in_ok-table_words.ensures in
     record {
       gathers = gathers_step as_it_is lines place _ _ _ (get_or lines place []) inside (line_at lines place inside) c.loop-place.invariant.gathers
           (words_spilled _ _ _ (get_or lines place []) made c.in_ok-spill.ensures.gathers);
@@ -48,25 +36,23 @@ loop-place-preserved g c =
 -- memory ran out: some of the text was written
 pub returns-in_err-table_words-clause-breaks : goal.returns-in_err-table_words-clause-breaks
 returns-in_err-table_words-clause-breaks g c =
-    let lines = table_lines c.args.topology.now c.args.node c.args.epoch (Some (table_in c.args.publication.now)) in
-    handed_on c.from_residual.result _ _ c.from_residual.ensures (λ why same.
+    let lines = table_lines c.args.names.now.topology.now c.args.node c.args.names.now.epoch (Some (table_in c.args.publication.now)) in
+    handed_on c.from_residual-in_err-table_words.result _ _ c.from_residual-in_err-table_words.ensures (λ why same.
     subst (Breaks _ _ _) (sym same) (breaks_short as_it_is lines c.loop-place.place _ _ c.loop-place.invariant.gathers))
 
 -- a page was not written
 pub returns-in_err-spill-clause-breaks : goal.returns-in_err-spill-clause-breaks
 returns-in_err-spill-clause-breaks g c =
-    let prefixes = c.args.topology.now.prefixes in
+    let net = c.args.names.now.topology.now in
     let t = table_in c.args.publication.now in
-    let lines = table_lines c.args.topology.now c.args.node c.args.epoch (Some t) in
+    let lines = table_lines net c.args.node c.args.names.now.epoch (Some t) in
     let place = c.loop-place.place in
-    let prefix = c.unwrap-prefix.result in
-    let known : place < length prefixes = omega (arith, c.prefix_count-place-end.ensures.count, c.loop-place-test.true) in
-    let inside : place < length lines = omega (arith, known, length-table_lines c.args.topology.now c.args.node c.args.epoch t) in
-    let found : slice_get prefixes place ≡ Some prefix = ap (slice_get prefixes) (sym c.new-id.ensures) ∙ (sym c.prefix.ensures ∙ c.unwrap-prefix.ensures) in
-    let line = λ (p : ℕ × Prefix). table_line c.args.node c.args.epoch p.1 (path_in p.0 t) in
-    let path = c.path.ensures ∙ ap (λ k. path_in k t) c.new-id.ensures in
-    let words : string_bytes c.table_words.new.out ≡ string_bytes c.loop-place.page.text ++ line (place, prefix) = c.in_ok-table_words.ensures ∙ ap (λ (o : Option (List ℕ)). string_bytes c.loop-place.page.text ++ table_line c.args.node c.args.epoch prefix o) path in
-    let made = line_made lines place place _ _ inside refl (line_of_element line (enumerate_from 0 prefixes) place (place, prefix) _ _ (enumerated prefixes place prefix known found) words) in
+    let known : place < length net.prefixes = omega (arith, c.prefix_count-place-end.ensures.count, c.loop-place-test.true) in
+    let inside : place < length lines = omega (arith, known, length-table_lines net c.args.node c.args.names.now.epoch t) in
+    let begins = c.as_str.ensures.value ∙ c.in_ok-head.ensures in
+    let path = c.path-path.ensures ∙ ap (λ k. path_in k t) c.new.ensures in
+    let made : string_bytes c.table_words.new.out ≡ string_bytes c.loop-place.page.text ++ get_or lines place [] =
+    line_added net c.args.node c.args.names.now.epoch t place c.as_str.result.now c.name.result.now _ _ _ known begins c.name.ensures path c.in_ok-table_words.ensures in
     let broke = rw made at c.in_err-spill.ensures.breaks in
     handed_on c.from_residual-in_err-spill.result _ _ c.from_residual-in_err-spill.ensures (λ why same.
     subst (Breaks _ _ _) (sym same)
@@ -75,7 +61,8 @@ returns-in_err-spill-clause-breaks g c =
 -- all lines are
 pub returns-clause-gathers : goal.returns-clause-gathers
 returns-clause-gathers g c =
+    let net = c.args.names.now.topology.now in
     let t = table_in c.args.publication.now in
-    let lines = table_lines c.args.topology.now c.args.node c.args.epoch (Some t) in
-    let over : length lines ≤ c.loop-place.place = omega (arith, c.prefix_count-place-end.ensures.count, length-table_lines c.args.topology.now c.args.node c.args.epoch t, c.loop-place-test.false) in
+    let lines = table_lines net c.args.node c.args.names.now.epoch (Some t) in
+    let over : length lines ≤ c.loop-place.place = omega (arith, c.prefix_count-place-end.ensures.count, length-table_lines net c.args.node c.args.names.now.epoch t, c.loop-place-test.false) in
     gathers_all as_it_is lines c.loop-place.place _ _ over c.loop-place.invariant.gathers

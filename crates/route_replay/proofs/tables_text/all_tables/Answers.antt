@@ -19,11 +19,12 @@ pub loop-node-init : goal.loop-node-init
 loop-node-init g c = record { gathers = gathers_nothing _; same_sink = refl }
 
 -- what a node published last for the epoch is its table
-same_text : (net known : Net) (past : Chronicle) (e n : ℕ) (list : List PublicationView) → known ≡ net → list ≡ published_for e past
-    → table_text known n e (option_map table_in (last_of n list)) ≡ table_text net n e (published n e past)
-same_text net known past e n list same is =
-    ap (λ (k : Net). table_text k n e (option_map table_in (last_of n list))) same
-    ∙ ap (table_text net n e) (ap (λ (l : List PublicationView). option_map table_in (last_of n l)) is ∙ sym (published_last n e past))
+same_text : (net known : Net) (past : Chronicle) (e named n : ℕ) (list : List PublicationView) → known ≡ net → named ≡ e → list ≡ published_for e past
+    → table_text known n named (option_map table_in (last_of n list)) ≡ table_text net n e (published n e past)
+same_text net known past e named n list same same_epoch is =
+    ap (λ (k : Net). table_text k n named (option_map table_in (last_of n list))) same
+    ∙ (ap (λ k. table_text net n k (option_map table_in (last_of n list))) same_epoch
+    ∙ ap (table_text net n e) (ap (λ (l : List PublicationView). option_map table_in (last_of n l)) is ∙ sym (published_last n e past)))
 
 -- one more node is shown
 pub loop-node-preserved : goal.loop-node-preserved
@@ -35,7 +36,8 @@ loop-node-preserved g c =
     let nodes = c.nodes-node-items.result.now in
     let i = c.loop-node.node-index in
     let n = c.node-item.result in
-    let same = same_text world.net c.topology-topology.result.now past e n c.args.publications.now c.topology-topology.ensures c.requires in
+    let names = c.in_ok-names.names in
+    let same = same_text world.net names.topology.now past e names.epoch n c.args.publications.now (c.in_ok-names.ensures.topology ∙ c.topology-topology.ensures) c.in_ok-names.ensures.epoch c.requires in
     record {
       gathers = gathers_step shown nodes i _ _ _ n c.loop-node-test.true
           (slice_get_read nodes _ i n refl c.loop-node-test.true c.node-item.is) c.loop-node.invariant.gathers (subst (Gathers _ _) same c.in_ok-one_table.ensures.gathers);
@@ -52,9 +54,10 @@ returns-in_err-one_table-clause-breaks g c =
     let nodes = c.nodes-node-items.result.now in
     let i = c.loop-node.node-index in
     let n = c.node-item.result in
-    let same = same_text world.net c.topology-topology.result.now past e n c.args.publications.now c.topology-topology.ensures c.requires in
+    let names = c.in_ok-names.names in
+    let same = same_text world.net names.topology.now past e names.epoch n c.args.publications.now (c.in_ok-names.ensures.topology ∙ c.topology-topology.ensures) c.in_ok-names.ensures.epoch c.requires in
     let all : nodes ≡ ascending world.net.nodes = c.nodes-node-items.ensures.nodes ∙ ap (λ (net : Net). ascending net.nodes) c.topology-topology.ensures in
-    handed_on c.from_residual.result _ _ c.from_residual.ensures (λ why is.
+    handed_on c.from_residual-in_err-one_table.result _ _ c.from_residual-in_err-one_table.ensures (λ why is.
     subst (λ ns. Breaks (g.O.Sink.seen c.args.page.now.sink.now) (g.O.Sink.seen c.one_table.new.page.sink.now) (string_bytes c.args.page.now.text ++ flat_map shown ns) why) all
     (subst (Breaks _ _ (string_bytes c.args.page.now.text ++ flat_map shown nodes)) (sym is)
     (breaks_step shown nodes i _ _ _ n c.in_err-one_table.field-0.0 c.loop-node-test.true (slice_get_read nodes _ i n refl c.loop-node-test.true c.node-item.is)

@@ -12,6 +12,6 @@ invariant-loop-node g l =
     let past = past_of (g.P.Policy.rules l.world.policy) l.world in
     record {
       gathers : Gathers (page_view g.O.Sink.seen l.initial.page) (page_view g.O.Sink.seen l.page)
-          (flat_map (λ u. table_text l.world.net u l.epoch (published u l.epoch past)) (take l.node-index l.node-items));
+          (flat_map (λ u. table_text l.world.net u l.fn.epoch (published u l.fn.epoch past)) (take l.node-index l.node-items));
       same_sink : l.page.sink.ghost_name ≡ l.initial.page.sink.ghost_name;
     }
