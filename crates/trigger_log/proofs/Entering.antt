@@ -23,6 +23,7 @@ use Rattle.trigger_log.specs.declared.listeners.Turn.{Turn}
 use Rattle.trigger_log.specs.declared.sessions.SessionMark.{SessionMark}
 use Rattle.trigger_log.specs.declared.listeners.Said.{Said}
 use Rattle.trigger_log.specs.declared.log.NodeLog.{NodeLog}
+use Rattle.trigger_log.specs.declared.kept_entries.KeptEntries.{KeptEntries}
 use Rattle.trigger_log.specs.BestRoutes.{KeepsRoutes}
 use Rattle.trigger_log.specs.Entries.{Entry, entry, reads, is_local, locals}
 use Rattle.trigger_log.specs.Making.{Making, making}
@@ -39,6 +40,38 @@ use Rattle.trigger_log.specs.Midway.{AreOffers, IsMidway}
 use Rattle.trigger_log.specs.Offered.{Covers, IsPlaced, asked, updates_over}
 use Rattle.trigger_log.proofs.Holding.{accepted}
 use Rattle.trigger_log.proofs.Rounds.{told_all}
+
+-- a log that keeps the same entries in another form
+pub with_kept : {P : Type 0} (policy : P) (rules : Rules) (net : Net) (u : ℕ) (log : NodeLog P) (h : List Entry) (kept : KeptEntries P) → StandsFor policy rules net u log h → KeepsEntries policy rules net u kept h
+    → StandsFor policy rules net u (record log { kept = kept }) h
+with_kept policy rules net u log h kept was keeps = record {
+  routes = was.routes;
+  fitting = was.fitting;
+  lists = was.lists;
+  node = was.node;
+  near = was.near;
+  next = was.next;
+  kept = keeps;
+  marks = was.marks;
+  held = was.held;
+  chosen = was.chosen;
+}
+
+-- a log whose lists of what an entry tells have other contents
+pub with_said : {P : Type 0} (policy : P) (rules : Rules) (net : Net) (u : ℕ) (log : NodeLog P) (h : List Entry) (said : Said) → StandsFor policy rules net u log h
+    → StandsFor policy rules net u (record log { said = said }) h
+with_said policy rules net u log h said was = record {
+  routes = was.routes;
+  fitting = was.fitting;
+  lists = was.lists;
+  node = was.node;
+  near = was.near;
+  next = was.next;
+  kept = was.kept;
+  marks = was.marks;
+  held = was.held;
+  chosen = was.chosen;
+}
 
 -- what holds after each success of a last call holds after the function
 pub on_ok_by : {T E Q : Type 0} (r : Result T E) → ((x : T) → r ≡ Ok x → Q) → OnOk r Q

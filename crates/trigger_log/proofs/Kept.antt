@@ -1,21 +1,23 @@
 -- The kept entries of a log: adding one, finding one by its place, and dropping more.
-use Rattle.std.proofs.Common.{ℕ, zero, suc, ◌+◌, ◌-◌, ◌<◌, ◌≤◌, ◌⊎◌, ◌↔◌, ⊎_elim, inr, nat_lt, is_some, IsNone, Option, Some, None, get_or, List, [], ◌∷◌, ◌++◌, length, take, drop, fold, ◌≡◌, refl, sym, ◌∙◌, ap, ap₂, subst, append_assoc, append-nil, arith, slice_get}
+use Rattle.std.proofs.Common.{Bool, true, not, ℕ, zero, suc, ◌+◌, ◌-◌, ◌<◌, ◌≤◌, ◌⊎◌, ◌↔◌, ⊎_elim, inr, nat_lt, is_some, IsNone, IsSome, Option, Some, None, get_or, List, [], ◌∷◌, ◌++◌, length, take, drop, fold, ◌≡◌, refl, sym, ◌∙◌, ap, ap₂, subst, append_assoc, append-nil, arith, slice_get}
 use Rattle.std.specs.List.{AllZip}
 use Rattle.std.proofs.lemmas.Bool.Decides.{nat_tests}
 use Rattle.std.proofs.lemmas.List.{length-append}
+use Rattle.std.proofs.lemmas.Option.{same_Some}
 use Rattle.std.proofs.lemmas.Slice.Zip.{AllZip-long}
 use Rattle.topology.specs.Net.{Net}
 use Rattle.path_vector.specs.Rules.{Rules}
 use Rattle.path_vector.specs.History.{Change, History}
 use Rattle.path_vector.specs.Parts.{Accepted}
 use Rattle.path_vector.specs.Standing.{StandsFor as RoutesStandFor}
+use Rattle.path_vector.specs.declared.state.RouteState.{RouteState}
 use Rattle.trigger_log.specs.declared.entries.Entry.{Entry as Shown}
 use Rattle.trigger_log.specs.declared.kept_entries.KeptEntries.{KeptEntries}
 use Rattle.trigger_log.specs.Dropping.{trimmed, base_of, kept_of}
 use Rattle.trigger_log.specs.Entered.{Entered, all_entered, Shows}
 use Rattle.trigger_log.specs.Entries.{Entry, reads}
 use Rattle.trigger_log.specs.Fits.{Fits}
-use Rattle.trigger_log.specs.KeptEntries.{KeepsEntries, dropped_before, taken}
+use Rattle.trigger_log.specs.KeptEntries.{KeepsEntries, TakesAll, dropped_before, taken}
 use Rattle.trigger_log.proofs.Droppable.{base_length, base_stays, kept_and_base}
 use Rattle.trigger_log.proofs.Holding.{accepted}
 use Rattle.trigger_log.proofs.Reading.{count_steps}
@@ -59,20 +61,29 @@ pub rotated : {A : Type 0} (n m : ℕ) (xs : List A) → m ≡ length xs → tak
 rotated n m xs is =
     ap (λ k. take k (drop n xs ++ take n xs)) (ap (λ k. k - n) is ∙ sym (drop_long n xs)) ∙ take_front (drop n xs) (take n xs)
 
+not_none : {A : Type 0} (x : Option A) → IsSome x → x ≡ None → ⊥
+not_none None some none = cc
+not_none (Some x) some none = cc
+
+-- an option that is none
+pub none_is : {A : Type 0} (x : Option A) (none : Bool) → is_some x ≡ not none → none ≡ true → x ≡ None
+none_is None none is e = refl
+none_is (Some x) none is e = cc
+
 -- one more entry
 pub keeps_more : {P : Type 0} (policy : P) (rules : Rules) (net : Net) (u : ℕ) (h : List Entry) (k : Entry) (shown : Shown) (old new : KeptEntries P) → KeepsEntries policy rules net u old h
-    → Shows rules net u (record { before = h; entry = k }) shown → new.base ≡ old.base → new.from ≡ old.from → new.next ≡ suc old.next → new.entries.items ≡ old.entries.items ++ shown ∷ []
+    → Shows rules net u (record { before = h; entry = k }) shown → IsSome old.base → new.base ≡ old.base → new.from ≡ old.from → new.next ≡ suc old.next → new.entries.items ≡ old.entries.items ++ shown ∷ []
     → KeepsEntries policy rules net u new (k ∷ h)
-keeps_more policy rules net u h k shown old new was shows base from next entries =
+keeps_more policy rules net u h k shown old new was shows based base from next entries =
     let n = dropped_before old in
     let same : dropped_before new ≡ n = ap (λ m. m - 1) from in
     record {
       counted = subst (λ m. 1 ≤ m) (sym from) was.counted;
       next = next ∙ ap suc was.next;
       within = subst (λ m. m ≤ suc (length h)) (sym same) (let le = was.within in omega (arith, le));
-      routes = subst (λ m. RoutesStandFor policy net u new.base (reads (base_of (trimmed m (k ∷ h))))) (sym same)
-          (subst (λ r. RoutesStandFor policy net u r (reads (base_of (trimmed n (k ∷ h))))) (sym base)
-          (subst (λ b. RoutesStandFor policy net u old.base (reads b)) (sym (base_stays n k h was.within)) was.routes));
+      routes = λ kept is. subst (λ m. RoutesStandFor policy net u kept (reads (base_of (trimmed m (k ∷ h))))) (sym same)
+          (subst (λ b. RoutesStandFor policy net u kept (reads b)) (sym (base_stays n k h was.within)) (was.routes kept (sym base ∙ is)));
+      whole = λ none. absurd (not_none old.base based (sym base ∙ none));
       shown = subst (λ m. AllZip (Shows rules net u) (drop m (all_entered (k ∷ h))) new.entries.items) (sym same)
           (subst (AllZip (Shows rules net u) (drop n (all_entered (k ∷ h)))) (sym entries)
           (subst (λ l. AllZip (Shows rules net u) l (old.entries.items ++ shown ∷ []))
@@ -195,10 +206,10 @@ accepted_before past (e ∷ es) a = (accepted_before (taken past e) es a).1
 
 module _ {P : Type 0} (policy : P) (rules : Rules) (net : Net) (u : ℕ) (old new : KeptEntries P) where
   -- what is kept after the entries in the middle are dropped
-  pub keeps_fewer : (newer mid base : List Entry) → KeepsEntries policy rules net u old (newer ++ (mid ++ base)) → Fits (newer ++ (mid ++ base)) → dropped_before old ≡ length base → new.from ≡ old.from + length mid → new.next ≡ old.next
-      → (Accepted (fold taken (reads base) (take (length mid) old.entries.items)) → RoutesStandFor policy net u old.base (reads base) → RoutesStandFor policy net u new.base (fold taken (reads base) (take (length mid) old.entries.items)))
+  pub keeps_fewer : (newer mid base : List Entry) (first_base next_base : RouteState P) → old.base ≡ Some first_base → new.base ≡ Some next_base → KeepsEntries policy rules net u old (newer ++ (mid ++ base)) → Fits (newer ++ (mid ++ base)) → dropped_before old ≡ length base → new.from ≡ old.from + length mid → new.next ≡ old.next
+      → (Accepted (fold taken (reads base) (take (length mid) old.entries.items)) → RoutesStandFor policy net u first_base (reads base) → RoutesStandFor policy net u next_base (fold taken (reads base) (take (length mid) old.entries.items)))
       → new.entries.items ≡ drop (length mid) old.entries.items → KeepsEntries policy rules net u new (newer ++ (mid ++ base))
-  keeps_fewer newer mid base was fitting count from next routes entries =
+  keeps_fewer newer mid base first_base next_base had has was fitting count from next routes entries =
       let counted = was.counted in
       let long = length-append mid base in
       let both = length-append newer (mid ++ base) in
@@ -213,44 +224,84 @@ module _ {P : Type 0} (policy : P) (rules : Rules) (net : Net) (u : ℕ) (old ne
       let rest : drop (length mid) items ≡ parts.1 = ap₂ (λ n l. drop n l) (sym size) (sym parts.2) ∙ drop_front parts.0 parts.1 in
       let read : fold taken (reads base) (take (length mid) items) ≡ reads (mid ++ base) =
       ap (fold taken (reads base)) first ∙ (taken_all rules net u mid base parts.0 (reads base) parts.3 ∙ reads_parts mid base) in
-      let before : RoutesStandFor policy net u old.base (reads base) =
-      subst (λ b. RoutesStandFor policy net u old.base (reads b))
-      (ap₂ (λ n h. base_of (trimmed n h)) count (sym (append_assoc newer mid base)) ∙ base_is (newer ++ mid) base) was.routes in
+      let before : RoutesStandFor policy net u first_base (reads base) =
+      subst (λ b. RoutesStandFor policy net u first_base (reads b))
+      (ap₂ (λ n h. base_of (trimmed n h)) count (sym (append_assoc newer mid base)) ∙ base_is (newer ++ mid) base) (was.routes first_base had) in
       let after = routes (subst Accepted (sym read) (all_accepted (mid ++ base) (fits_before newer (mid ++ base) fitting))) before in
       record {
         counted = subst (λ m. 1 ≤ m) (sym from) (omega (arith, counted));
         next = next ∙ was.next;
         within = subst (λ m. m ≤ length (newer ++ (mid ++ base))) (sym now) (omega (arith, both));
-        routes = subst (λ b. RoutesStandFor policy net u new.base (reads b)) (sym (ap (λ n. base_of (trimmed n (newer ++ (mid ++ base)))) now ∙ base_is newer (mid ++ base)))
-            (subst (RoutesStandFor policy net u new.base) read after);
+        routes = λ kept is. let same : next_base ≡ kept = same_Some next_base kept (sym has ∙ is) in
+            subst (λ r. RoutesStandFor policy net u r (reads (base_of (trimmed (dropped_before new) (newer ++ (mid ++ base)))))) same
+            (subst (λ b. RoutesStandFor policy net u next_base (reads b)) (sym (ap (λ n. base_of (trimmed n (newer ++ (mid ++ base)))) now ∙ base_is newer (mid ++ base)))
+            (subst (RoutesStandFor policy net u next_base) read after));
+        whole = λ none. absurd (let clash = sym has ∙ none in cc);
         shown = subst (λ n. AllZip (Shows rules net u) (drop n (all_entered (newer ++ (mid ++ base)))) new.entries.items) (sym now)
             (subst (λ l. AllZip (Shows rules net u) l new.entries.items) (sym (on_base newer (mid ++ base)))
             (subst (AllZip (Shows rules net u) (entered_on newer (mid ++ base))) (sym (entries ∙ rest)) parts.4));
       }
 
   -- what is kept after all are dropped
-  pub keeps_none : (h : List Entry) → KeepsEntries policy rules net u old h → RoutesStandFor policy net u new.base (reads h) → new.from ≡ old.next → new.next ≡ old.next → new.entries.items ≡ []
+  pub keeps_none : (h : List Entry) → KeepsEntries policy rules net u old h → new.base ≡ None → new.from ≡ old.next → new.next ≡ old.next → new.entries.items ≡ []
       → KeepsEntries policy rules net u new h
-  keeps_none h was live from next entries =
+  keeps_none h was none from next entries =
       let place : new.from ≡ suc (length h) = from ∙ was.next in
       let now : dropped_before new ≡ length h = omega (arith, place) in
-      let whole : base_of (trimmed (length h) h) ≡ h = let none : length h - length h ≡ 0 = omega arith in ap (λ n. drop n h) none in
       record {
         counted = subst (λ m. 1 ≤ m) (sym place) (omega arith);
         next = next ∙ was.next;
         within = subst (λ m. m ≤ length h) (sym now) (omega arith);
-        routes = subst (λ n. RoutesStandFor policy net u new.base (reads (base_of (trimmed n h)))) (sym now)
-            (subst (λ b. RoutesStandFor policy net u new.base (reads b)) (sym whole) live);
+        routes = λ kept is. absurd (let clash = sym none ∙ is in cc);
+        whole = λ none. now;
         shown = subst (λ n. AllZip (Shows rules net u) (drop n (all_entered h)) new.entries.items) (sym now)
             (subst (AllZip (Shows rules net u) (drop (length h) (all_entered h))) (sym entries)
             (subst (λ l. AllZip (Shows rules net u) l []) (sym (drop_all (length h) (all_entered h) (let long = count_steps h in omega (arith, long)))) tt));
       }
 
+  -- what is kept where nothing was, and nothing is dropped
+  pub keeps_nothing : (h : List Entry) (place : ℕ) → KeepsEntries policy rules net u old h → old.base ≡ None → new.base ≡ None → old.from ≤ place → place ≤ suc (length h) → new.from ≡ place → new.next ≡ old.next
+      → (old.from ≡ place → new.entries.items ≡ old.entries.items) → KeepsEntries policy rules net u new h
+  keeps_nothing h place was none none_now above below from next entries =
+      let counted = was.counted in
+      let whole = was.whole none in
+      let same : old.from ≡ place = omega (arith, counted, whole, above, below) in
+      let still : dropped_before new ≡ dropped_before old = ap (λ n. n - 1) (from ∙ sym same) in
+      record {
+        counted = subst (λ m. 1 ≤ m) (same ∙ sym from) counted;
+        next = next ∙ was.next;
+        within = subst (λ m. m ≤ length h) (sym still) was.within;
+        routes = λ kept is. absurd (let clash = sym none_now ∙ is in cc);
+        whole = λ e. still ∙ whole;
+        shown = subst (λ n. AllZip (Shows rules net u) (drop n (all_entered h)) new.entries.items) (sym still)
+            (subst (AllZip (Shows rules net u) (drop (dropped_before old) (all_entered h))) (sym (entries same)) was.shown);
+      }
+
+  -- what is kept once the routes after the dropped entries are
+  pub keeps_based : (h : List Entry) (next_base : RouteState P) → KeepsEntries policy rules net u old h → old.base ≡ None → new.base ≡ Some next_base → RoutesStandFor policy net u next_base (reads h) → new.from ≡ old.from
+      → new.next ≡ old.next → new.entries.items ≡ old.entries.items → KeepsEntries policy rules net u new h
+  keeps_based h next_base was none has stands from next entries =
+      let still : dropped_before new ≡ dropped_before old = ap (λ n. n - 1) from in
+      let all : dropped_before new ≡ length h = still ∙ was.whole none in
+      let whole : base_of (trimmed (length h) h) ≡ h = let none : length h - length h ≡ 0 = omega arith in ap (λ n. drop n h) none in
+      record {
+        counted = subst (λ m. 1 ≤ m) (sym from) was.counted;
+        next = next ∙ was.next;
+        within = subst (λ m. m ≤ length h) (sym still) was.within;
+        routes = λ kept is. let same : next_base ≡ kept = same_Some next_base kept (sym has ∙ is) in
+            subst (λ r. RoutesStandFor policy net u r (reads (base_of (trimmed (dropped_before new) h)))) same
+            (subst (λ n. RoutesStandFor policy net u next_base (reads (base_of (trimmed n h)))) (sym all)
+            (subst (λ b. RoutesStandFor policy net u next_base (reads b)) (sym whole) stands));
+        whole = λ gone. all;
+        shown = subst (λ n. AllZip (Shows rules net u) (drop n (all_entered h)) new.entries.items) (sym still)
+            (subst (AllZip (Shows rules net u) (drop (dropped_before old) (all_entered h))) (sym entries) was.shown);
+      }
+
   -- the same by places: all entries before this place are dropped
-  pub keeps_from : (h : List Entry) (place asked : ℕ) → KeepsEntries policy rules net u old h → Fits h → old.from ≤ place → place ≤ suc (length h) → asked ≡ place - old.from → new.from ≡ place → new.next ≡ old.next
-      → ((past : History) → Accepted (fold taken past (take asked old.entries.items)) → RoutesStandFor policy net u old.base past → RoutesStandFor policy net u new.base (fold taken past (take asked old.entries.items)))
+  pub keeps_from : (h : List Entry) (place asked : ℕ) (first_base next_base : RouteState P) → old.base ≡ Some first_base → new.base ≡ Some next_base → KeepsEntries policy rules net u old h → Fits h → old.from ≤ place → place ≤ suc (length h) → asked ≡ place - old.from → new.from ≡ place → new.next ≡ old.next
+      → ((past : History) → Accepted (fold taken past (take asked old.entries.items)) → RoutesStandFor policy net u first_base past → RoutesStandFor policy net u next_base (fold taken past (take asked old.entries.items)))
       → new.entries.items ≡ drop asked old.entries.items → KeepsEntries policy rules net u new h
-  keeps_from h place asked was fitting above below is from next routes entries =
+  keeps_from h place asked first_base next_base had has was fitting above below is from next routes entries =
       let counted = was.counted in
       let log = trimmed (place - 1) h in
       let newer = kept_of log in
@@ -268,12 +319,22 @@ module _ {P : Type 0} (policy : P) (rules : Rules) (net : Net) (u : ℕ) (old ne
       let taken_long : length mid ≡ asked = omega (arith, parts, total, left, size, is, counted, above) in
       let log_is : newer ++ (mid ++ base) ≡ h = ap (λ l. newer ++ l) halves ∙ whole in
       subst (KeepsEntries policy rules net u new) log_is
-      (keeps_fewer newer mid base (subst (KeepsEntries policy rules net u old) (sym log_is) was) (subst Fits (sym log_is) fitting) count
+      (keeps_fewer newer mid base first_base next_base had has (subst (KeepsEntries policy rules net u old) (sym log_is) was) (subst Fits (sym log_is) fitting) count
       (from ∙ omega (arith, taken_long, is, above)) next
-      (subst (λ n. Accepted (fold taken (reads base) (take n old.entries.items)) → RoutesStandFor policy net u old.base (reads base) → RoutesStandFor policy net u new.base (fold taken (reads base) (take n old.entries.items))) (sym taken_long) (routes (reads base)))
+      (subst (λ n. Accepted (fold taken (reads base) (take n old.entries.items)) → RoutesStandFor policy net u first_base (reads base) → RoutesStandFor policy net u next_base (fold taken (reads base) (take n old.entries.items))) (sym taken_long) (routes (reads base)))
       (entries ∙ ap (λ n. drop n old.entries.items) (sym taken_long)))
     where
       take_drop : (n : ℕ) (xs : List Entry) → take n xs ++ drop n xs ≡ xs
       take_drop zero xs = refl
       take_drop (suc n) [] = refl
       take_drop (suc n) (x ∷ xs) = ap (λ r. x ∷ r) (take_drop n xs)
+
+  -- the same, whether a base is kept or not
+  pub keeps_after : (h : List Entry) (place asked : ℕ) → KeepsEntries policy rules net u old h → Fits h → old.from ≤ place → place ≤ suc (length h) → asked ≡ place - old.from → new.from ≡ place → new.next ≡ old.next
+      → (base : Option (RouteState P)) → old.base ≡ base → TakesAll base new.base (take asked old.entries.items) → new.entries.items ≡ drop asked old.entries.items → KeepsEntries policy rules net u new h
+  keeps_after h place asked was fitting above below is from next None none none_now entries =
+      keeps_nothing h place was none none_now above below from next
+      (λ same. entries ∙ ap (λ n. drop n old.entries.items) (let zero_now : asked ≡ 0 = omega (arith, is, same) in zero_now))
+  keeps_after h place asked was fitting above below is from next (Some first_base) had takes entries =
+      keeps_from h place asked first_base takes.0 had takes.1 was fitting above below is from next
+      (λ past accepted stands. takes.2 policy net u past stands accepted) entries

@@ -1,20 +1,20 @@
 //! The entries that a log keeps, and the routes after the entries that it dropped.
-ghost use Rattle.std.specs.Prelude.{ℕ, suc, ◌≡◌, ◌<◌, ◌≤◌, ◌-◌, [], ◌∷◌, ◌++◌, List, drop, fold, length, IfOk, OnOk, OnErr, vec_len, vec_capacity};
+ghost use Rattle.std.specs.Prelude.{ℕ, suc, ◌≡◌, ◌<◌, ◌≤◌, ◌-◌, [], ◌∷◌, ◌++◌, List, drop, fold, length, IfOk, OnOk, OnErr, IsSome, option_map, vec_len, vec_capacity};
 ghost use Rattle.topology.specs.Net.{Net};
 ghost use Rattle.path_vector.specs.History.{History, change};
 ghost use Rattle.path_vector.specs.Parts.{Accepted};
 ghost use Rattle.path_vector.specs.Standing.{StandsFor as RoutesStandFor};
 ghost use Rattle.trigger_log.specs.Entries.{Entry as Logged, reads};
 ghost use Rattle.trigger_log.specs.Fits.{Fits};
-ghost use Rattle.trigger_log.specs.KeptEntries.{KeepsEntries, taken};
+ghost use Rattle.trigger_log.specs.KeptEntries.{KeepsEntries, TakesAll, taken};
 ghost use Rattle.trigger_log.specs.Entered.{Shows};
 
 use crate::counters::next_number;
 use crate::entries::Entry;
 use path_vector::{Policy, RouteState};
 use std::alloc::Global;
+use topology::NoMemory;
 use topology::limits::MOST_ENTRIES;
-use topology::{NoMemory, NodeId, Topology};
 
 // The initial room of a log: as many entries as a node may make, so that a growing log is never copied. Memory that is
 // not touched costs nothing.
@@ -24,7 +24,8 @@ const ROOM: usize = MOST_ENTRIES as usize;
 /// has dropped. Places count from 1.
 #[derive(Drop)]
 pub struct KeptEntries<P: Policy + Copy> {
-    base: RouteState<P>,
+    // None only while no entry is kept: then the live routes of the log are those after the dropped entries.
+    base: Option<RouteState<P>>,
     // The place of the first entry that is kept, and that of the next entry.
     from: u32,
     next: u32,
@@ -56,30 +57,56 @@ fn take_all<P: Policy + Copy>(routes: &mut RouteState<P>, entries: &[Entry]) -> 
     Ok(())
 }
 
+// Applies the dropped entries to the base, if there is one.
+fn take_dropped<P: Policy + Copy>(
+    base: &mut Option<RouteState<P>>,
+    entries: &[Entry],
+) -> Result<(), NoMemory>
+    ensures { OnOk result (TakesAll base.old base.new entries.now) }
+{
+    match base {
+        None => Ok(()),
+        Some(base) => take_all(base, entries),
+    }
+}
+
 impl<P: Policy + Copy> KeptEntries<P> {
     /// The kept entries of an empty log.
-    pub(crate) fn new(
-        alloc: Global,
-        topology: &Topology,
-        node: NodeId,
-        policy: P,
-    ) -> Result<KeptEntries<P>, NoMemory>
-        ensures stands { IfOk result (λ kept. KeepsEntries policy (P.rules policy) topology.now node kept []) }
+    pub(crate) fn new(alloc: Global) -> Result<KeptEntries<P>, NoMemory>
+        ensures stands { IfOk result (λ kept. (policy : P) (net : Net) (u : ℕ) →
+            KeepsEntries policy (P.rules policy) net u kept []) }
         ensures from { IfOk result (λ kept. kept.from ≡ 1) }
     {
         Ok(KeptEntries {
-            base: RouteState::new(alloc, topology, node, policy)?,
+            base: None,
             from: 1,
             next: 1,
             entries: Vec::with_capacity(alloc, ROOM)?,
         })
     }
 
-    /// The routes after the entries that were dropped.
-    pub(crate) fn base(&self) -> &RouteState<P>
-        ensures { result.now ≡ self.now.base }
+    /// The routes after the entries that were dropped; `None` where these are the live routes of the log.
+    pub(crate) fn base(&self) -> Option<&RouteState<P>>
+        ensures { option_map (λ base. base.now) result ≡ self.now.base }
     {
-        &self.base
+        self.base.as_ref()
+    }
+
+    /// Keeps the routes after the dropped entries, if it does not yet; `live` are the live routes. This comes before the
+    /// live routes take one more entry.
+    #[inline(always)]
+    pub(crate) fn keep_base(&mut self, live: &RouteState<P>) -> Result<(), NoMemory>
+        ensures kept { OnOk result ((policy : P) (net : Net) (u : ℕ) (h : List Logged) →
+            KeepsEntries policy (P.rules policy) net u self.old h → RoutesStandFor policy net u live.now (reads h) →
+            KeepsEntries policy (P.rules policy) net u self.new h) }
+        ensures based { OnOk result (IsSome self.new.base) }
+        ensures from { self.new.from ≡ self.old.from }
+    {
+        if self.base.is_none() {
+            let base = live.copy()?;
+            self.base = Some(base);
+        }
+        Ok(())
     }
 
     /// The place of the first entry that is kept.
@@ -115,6 +142,7 @@ impl<P: Policy + Copy> KeptEntries<P> {
     /// Keeps one more entry.
     #[inline(always)]
     pub(crate) fn push(&mut self, entry: Entry) -> Result<(), NoMemory>
+        requires based { IsSome self.old.base }
         ensures kept { OnOk result ((policy : P) (net : Net) (u : ℕ) (h : List Logged) (k : Logged) →
             KeepsEntries policy (P.rules policy) net u self.old h →
             Shows (P.rules policy) net u (record { before = h; entry = k }) entry →
@@ -141,24 +169,22 @@ impl<P: Policy + Copy> KeptEntries<P> {
         let asked = place.saturating_sub(self.from) as usize;
         let dropped = asked.min(self.entries.len());
         let left = self.entries.len() - dropped;
-        take_all(&mut self.base, &self.entries[..dropped])?;
+        take_dropped(&mut self.base, &self.entries[..dropped])?;
         self.entries.rotate_left(dropped);
         self.entries.truncate(left);
         self.from = place;
         Ok(())
     }
 
-    /// Drops all entries; `live` are the routes after them. Copying these costs less than applying all entries again.
-    pub(crate) fn drop_all(&mut self, live: &RouteState<P>) -> Result<(), NoMemory>
-        ensures kept { OnOk result ((policy : P) (net : Net) (u : ℕ) (h : List Logged) →
-            KeepsEntries policy (P.rules policy) net u self.old h → RoutesStandFor policy net u live.now (reads h) →
-            KeepsEntries policy (P.rules policy) net u self.new h) }
-        ensures from { OnOk result (self.new.from ≡ self.old.next) }
+    /// Drops all entries. Then the live routes of the log are those after the dropped entries, and no others are kept.
+    pub(crate) fn drop_all(&mut self)
+        ensures kept { (policy : P) (net : Net) (u : ℕ) (h : List Logged) →
+            KeepsEntries policy (P.rules policy) net u self.old h →
+            KeepsEntries policy (P.rules policy) net u self.new h }
+        ensures from { self.new.from ≡ self.old.next }
     {
-        let base = live.copy()?;
-        self.base = base;
+        self.base = None;
         self.entries.clear();
         self.from = self.next;
-        Ok(())
     }
 }

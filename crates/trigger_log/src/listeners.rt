@@ -23,7 +23,9 @@ use crate::outgoing::{Outgoing, forget};
 use crate::pending_list::is_to;
 use path_vector::{Cause, Policy, RouteState};
 use std::alloc::Global;
-use topology::{Item, NoMemory, NodeId, Path, Pending, PrefixId, Relation, SentList, Session, Triggers};
+use topology::{
+    Item, NoMemory, NodeId, Path, Pending, PrefixId, Relation, SentList, Session, Triggers,
+};
 
 fn same_slice(a: &[NodeId], b: &[NodeId]) -> bool
     ensures { result ≡ same_nodes a.now b.now }
@@ -152,7 +154,8 @@ fn say(
     let seq = next_number(count)?;
     let path = copy(path)?;
     let carried = triggers.copy()?;
-    said.sent.push(listener.nbr, listener.session, seq, triggers)?;
+    said.sent
+        .push(listener.nbr, listener.session, seq, triggers)?;
     // Reserve first, as in `KeptEntries::push`.
     said.outgoing.reserve(1)?;
     said.outgoing.push_reserved(Outgoing {

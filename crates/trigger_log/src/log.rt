@@ -77,7 +77,7 @@ impl<P: Policy + Copy> NodeLog<P> {
             routes,
             sessions: Sessions::new(alloc, topology.neighbours(node))?,
             held_back: HeldBack::new(alloc, topology, node)?,
-            kept: KeptEntries::new(alloc, topology, node, policy)?,
+            kept: KeptEntries::new(alloc)?,
             next_count: 1,
             said,
             best,
@@ -200,7 +200,7 @@ impl<P: Policy + Copy> NodeLog<P> {
         Ok(shorter)
     }
 
-    // Drops the entries before the place. If all are dropped, the new base is a copy of the live routes.
+    // Drops the entries before the place.
     fn shorten(&mut self, place: u32) -> Result<(), NoMemory>
         ensures log { OnOk result ((policy : P) (net : Net) (u : ℕ) (h : List Logged) →
             StandsFor policy (P.rules policy) net u self.old h →
@@ -212,7 +212,8 @@ impl<P: Policy + Copy> NodeLog<P> {
             return Ok(());
         }
         if place == self.kept.next() {
-            return self.kept.drop_all(&self.routes);
+            self.kept.drop_all();
+            return Ok(());
         }
         self.kept.drop_before(place)
     }
@@ -250,7 +251,10 @@ impl<P: Policy + Copy> NodeLog<P> {
             StandsFor policy (P.rules policy) net u self.now h →
             RoutesStandFor policy net u result.now (reads (base_of (trimmed (dropped_of self.now) h))) }
     {
-        self.kept.base()
+        match self.kept.base() {
+            Some(base) => base,
+            None => &self.routes,
+        }
     }
 
     /// The entry at an index, from 1. The answer is `None` exactly where there is no such entry, or it was dropped.

@@ -1,5 +1,5 @@
 //! What a log does with a new entry.
-ghost use Rattle.std.specs.Prelude.{ℕ, suc, ◌≡◌, ◌<◌, ◌∷◌, List, length, map, true, OnOk, OnErr, IfOk, if◌then◌else◌};
+ghost use Rattle.std.specs.Prelude.{ℕ, suc, ◌≡◌, ◌<◌, ◌∷◌, List, length, map, true, OnOk, OnErr, IfOk, IsSome, if◌then◌else◌};
 ghost use Rattle.topology.specs.Net.{Net};
 ghost use Rattle.topology.specs.declared.names.Scope.TheVariants.{One, All, Nothing};
 ghost use Rattle.path_vector.specs.declared.causes.Cause.TheVariants.{Down, Ready};
@@ -70,6 +70,7 @@ impl<P: Policy + Copy> NodeLog<P> {
         ensures err { OnErr result (outgoing.new ≡ outgoing.old) }
         ensures dropped { OnOk result (dropped_of self.new ≡ dropped_of self.old) }
     {
+        self.kept.keep_base(&self.routes)?;
         if stays(&self.routes, &scope, &cause) {
             self.enter_quietly(triggers, scope, cause)?;
             forget(outgoing);
@@ -88,6 +89,7 @@ impl<P: Policy + Copy> NodeLog<P> {
         scope: Scope,
         cause: Cause,
     ) -> Result<(), NoMemory>
+        requires based { IsSome self.old.kept.base }
         ensures log { OnOk result ((policy : P) (net : Net) (u : ℕ) (h : List Logged) →
             StandsFor policy (P.rules policy) net u self.old h → IsOfNeighbour net u cause →
             IsPlaced net scope → CauseFits h scope cause → ListsFor scope triggers →
@@ -115,6 +117,7 @@ impl<P: Policy + Copy> NodeLog<P> {
         scope: Scope,
         cause: Cause,
     ) -> Result<(), NoMemory>
+        requires based { IsSome self.old.kept.base }
         ensures made { OnOk result ((policy : P) (u : ℕ) (h : List Logged) →
             StandsFor policy (P.rules policy) topology.now u self.old h → IsOfNeighbour topology.now u cause →
             IsPlaced topology.now scope → CauseFits h scope cause → ListsFor scope triggers →
@@ -136,6 +139,7 @@ impl<P: Policy + Copy> NodeLog<P> {
         triggers: Triggers,
         cause: Cause,
     ) -> Result<(), NoMemory>
+        requires based { IsSome self.old.kept.base }
         ensures made { OnOk result ((policy : P) (net : Net) (u : ℕ) (h : List Logged) →
             StandsFor policy (P.rules policy) net u self.old h → IsOfNeighbour net u cause →
             prefix < length net.prefixes → CauseFits h (One prefix) cause → ListsFor (One prefix) triggers →
@@ -161,6 +165,7 @@ impl<P: Policy + Copy> NodeLog<P> {
         triggers: Triggers,
         cause: Cause,
     ) -> Result<(), NoMemory>
+        requires based { IsSome self.old.kept.base }
         ensures made { OnOk result ((policy : P) (u : ℕ) (h : List Logged) →
             StandsFor policy (P.rules policy) topology.now u self.old h → IsOfNeighbour topology.now u cause →
             CauseFits h All cause → ListsFor All triggers →
@@ -183,6 +188,7 @@ impl<P: Policy + Copy> NodeLog<P> {
         triggers: Triggers,
         cause: Cause,
     ) -> Result<(), NoMemory>
+        requires based { IsSome self.old.kept.base }
         ensures made { OnOk result ((policy : P) (u : ℕ) (h : List Logged) →
             StandsFor policy (P.rules policy) topology.now u self.old h → IsOfNeighbour topology.now u cause →
             CauseFits h All cause → ListsFor All triggers →
@@ -211,6 +217,7 @@ impl<P: Policy + Copy> NodeLog<P> {
         nbr: NodeId,
         session: Session,
     ) -> Result<(), NoMemory>
+        requires based { IsSome self.old.kept.base }
         ensures made { OnOk result ((policy : P) (net : Net) (u : ℕ) (h : List Logged) →
             StandsFor policy (P.rules policy) net u self.old h → IsOfNeighbour net u (Ready nbr session) →
             CauseFits h All (Ready nbr session) → ListsFor All triggers →
@@ -237,6 +244,7 @@ impl<P: Policy + Copy> NodeLog<P> {
         nbr: NodeId,
         session: Session,
     ) -> Result<(), NoMemory>
+        requires based { IsSome self.old.kept.base }
         ensures made { OnOk result ((policy : P) (u : ℕ) (h : List Logged) →
             StandsFor policy (P.rules policy) topology.now u self.old h → IsOfNeighbour topology.now u (Down nbr session) →
             CauseFits h All (Down nbr session) → ListsFor All triggers →
@@ -260,6 +268,7 @@ impl<P: Policy + Copy> NodeLog<P> {
 
     // Adds an entry that concerns no prefix. It changes no route.
     fn enter_nothing(&mut self, triggers: Triggers, cause: Cause) -> Result<(), NoMemory>
+        requires based { IsSome self.old.kept.base }
         ensures made { OnOk result ((policy : P) (net : Net) (u : ℕ) (h : List Logged) →
             StandsFor policy (P.rules policy) net u self.old h → IsOfNeighbour net u cause →
             CauseFits h Nothing cause → ListsFor Nothing triggers →
@@ -284,6 +293,7 @@ impl<P: Policy + Copy> NodeLog<P> {
         cause: Cause,
         offers: Offers<'_>,
     ) -> Result<(), NoMemory>
+        requires based { IsSome self.old.kept.base }
         requires same_prefixes { prefixes_of offers.before.now ≡ prefixes_of offers.after.now }
         requires same { AreSame offers.before.now offers.after.now offers.same.now }
         ensures made { OnOk result ((policy : P) (net : Net) (u : ℕ) (h : List Logged) (routes : RouteState P) (kept : BestRoutes) →
@@ -321,6 +331,7 @@ impl<P: Policy + Copy> NodeLog<P> {
     // Keeps the entry, and counts it.
     #[inline(always)]
     fn keep(&mut self, entry: Entry) -> Result<(), NoMemory>
+        requires based { IsSome self.old.kept.base }
         ensures node { OnOk result (self.new.node ≡ self.old.node) }
         ensures routes { OnOk result (self.new.routes ≡ self.old.routes) }
         ensures sessions { OnOk result (self.new.sessions ≡ self.old.sessions) }

@@ -1,4 +1,4 @@
-use Rattle.std.proofs.Common.{◌≡◌, ap, refl, subst, sym}
+use Rattle.std.proofs.Common.{subst, sym}
 use Rattle.std.proofs.lemmas.Result.{on_ok_weaker}
 use Rattle.path_vector.specs.Answers.{Copies}
 use Rattle.trigger_log.proofs.KeptRoutes.{none_put, several, with_one, with_one_at, with_one_other}

@@ -17,7 +17,7 @@ returns-clause-stands g c =
       node = refl;
       near = c.in_ok-new.ensures.near ∙ c.neighbours.ensures.neighbours;
       next = refl;
-      kept = c.in_ok-new-3.ensures.stands;
+      kept = c.in_ok-new-3.ensures.stands c.args.policy net u;
       marks = subst (AreRows rules net u []) (sym (c.in_ok-new.ensures.rows ∙ ap (map first) c.neighbours.ensures.neighbours)) (rows_first rules net u);
       held = record { from = c.in_ok-new-2.ensures.from; rows = c.in_ok-new-2.ensures.rows ∙ sym (none_at_first rules net u) };
       chosen = c.in_ok-best.ensures c.args.policy u [] c.in_ok-routes.ensures;
