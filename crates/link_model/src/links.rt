@@ -25,7 +25,8 @@ pub struct Links {
     channels: Vec<Channel>,
     // The ways on which something is.
     busy: WaySet,
-    // A guess at the number of the way of the next item that is sent.
+    // A guess at the number of the way of the next item that is sent: the items of an entry go to its neighbours in
+    // ascending order.
     likely: usize,
     ghost sized: { length channels.items ≡ length table },
     ghost few: { length table ≤ MOST_WAYS },
@@ -75,15 +76,15 @@ impl Links {
         self.table.way_of(from, to)
     }
 
-    // As `way_of`, and quicker where the guess is right. The items of an entry go to its neighbours in ascending order.
+    // As `way_of`, and quicker where the guess at the number is right.
     #[inline(always)]
-    fn likely_way(&self, from: NodeId, to: NodeId) -> Option<usize>
+    fn way_near(&self, from: NodeId, to: NodeId, guess: usize) -> Option<usize>
         ensures some { IfSome result (λ way. IsPlaced self.now from to way) }
         ensures none { IfNone result ((net : Net) (ways : Ways) → Keeps net self.now ways →
             linked net from to ≡ false) }
         ensures few { IfSome result (λ way. way < MOST_WAYS) }
     {
-        self.table.way_near(from, to, self.likely)
+        self.table.way_near(from, to, guess)
     }
 
     /// The way with this number. The answer is `None` exactly where no way has it.
@@ -149,7 +150,7 @@ impl Links {
             StandsFor net self.new (Push from to session item ∷ acts)) }
         ensures err { OnErr result (self.new ≡ self.old) }
     {
-        let Some(way) = self.likely_way(from, to) else {
+        let Some(way) = self.way_near(from, to, self.likely) else {
             return Ok(false);
         };
         let queued = self.channels[way].push(session, item)?;
@@ -230,6 +231,20 @@ impl Links {
             Some(channel) => channel.state(),
             None => LinkState::Down(Session::new(1)),
         }
+    }
+
+    /// As `state`, and quicker where the guess is right: it is one at the number of the way from the first node to the second.
+    /// Sets the guess to the next number. So one guess serves for a node and its neighbours in ascending order. Takes no memory.
+    #[inline(always)]
+    pub fn state_near(&self, a: NodeId, b: NodeId, guess: &mut usize) -> LinkState
+        ensures { (net : Net) (acts : LinkActs) → StandsFor net self.now acts → linked net a b ≡ true →
+            result ≡ state a b acts }
+    {
+        let Some(way) = self.way_near(a, b, *guess) else {
+            return LinkState::Down(Session::new(1));
+        };
+        *guess = way + 1;
+        self.channel_at(way).state()
     }
 
     /// The oldest item on its way from one node to the other. Takes no memory.

@@ -56,8 +56,9 @@ impl<P: Policy + Copy> Network<P> {
     {
         let neighbours = self.topology.neighbours(node);
         let mut up = Vec::with_capacity(self.alloc, neighbours.len())?;
+        let mut guess = 0;
         for nbr in neighbours {
-            if is_up(self.links.state(node, *nbr)) {
+            if is_up(self.links.state_near(node, *nbr, &mut guess)) {
                 up.push(*nbr)?;
             }
         }

@@ -25,7 +25,7 @@ loop-nbr-preserved g c =
     let joined = neighbour_linked net u x (subst (λ l. has l x ≡ true) are_near (has_placed near i x here)) in
     record {
       so_far = λ past are.
-          let state = c.is_up.ensures ∙ ap is_up (c.state.ensures net are.acts are.stands joined ∙ are.states u x) in
+          let state = c.is_up.ensures ∙ ap is_up (c.state_near.ensures net are.acts are.stands joined ∙ are.states u x) in
           let before = subst (λ l. c.loop-nbr.up.items ++ filter (λ w. is_up (link u w past)) l ≡ filter (λ w. is_up (link u w past)) near) (drop_at near i x here) (c.loop-nbr.invariant.so_far past are) in
           elim c.if-is_up.branch [
             | then-is_up+in_ok-push w ↦

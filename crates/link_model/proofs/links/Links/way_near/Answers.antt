@@ -1,6 +1,6 @@
 use Rattle.link_model.proofs.Keeping.{no_way}
 use Rattle.link_model.proofs.Tables.{if_none}
-use Rattle.link_model.proofs.links.Links.likely_way.Goals as goal
+use Rattle.link_model.proofs.links.Links.way_near.Goals as goal
 
 pub returns-clause-none : goal.returns-clause-none
 returns-clause-none c = if_none c.way_near.result _ (λ none net ways keeps.
