@@ -60,6 +60,19 @@ place_is p xs i e =
     let inside : i < length xs = grind (arith, common_steps) in
     (at, inside)
 
+-- a number that has a place is one of them
+pub has_place : (p : ℕ → Bool) (xs : List ℕ) (i : ℕ) → position p xs ≡ Some i → true ≡ list_any p xs
+has_place p xs i e = let at = place_is p xs i e in sym (any_below p xs (subst (λ n. n < length xs) (sym at.0) at.1))
+  where
+    any_below : (p : ℕ → Bool) (xs : List ℕ) → position_or_len p xs < length xs → list_any p xs ≡ true
+    any_below p [] b = absurd (omega (arith, b))
+    any_below p (x ∷ xs) b =
+        (elim (p x) as (λ t. p x ≡ t → list_any p (x ∷ xs) ≡ true) [
+          | true ↦ λ e. rw e refl
+          | false ↦ λ e. let off : position_or_len p (x ∷ xs) ≡ 1 + position_or_len p xs = rw e refl in
+              rw e (any_below p xs (omega (arith, b, off)))
+        ]) refl
+
 -- the first packet with the number is this one, at this place
 pub record KeptAt (js : List JourneyView) (k i : ℕ) (x : JourneyView) : Type 0 where
   pub first : position_or_len (is_of k) js ≡ i

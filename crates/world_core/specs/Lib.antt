@@ -1,6 +1,7 @@
 pub mod View
 pub mod Publications
 pub mod Walks
+pub mod Finding
 pub mod Fits
 pub mod Effects
 pub mod Accounts

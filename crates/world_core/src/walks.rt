@@ -1,5 +1,6 @@
 //! The packets of a world, and their walks.
-ghost use Rattle.std.specs.Prelude.{◌≡◌, ◌∷◌, ◌++◌, [], ℕ, Bool, true, None, Some, find, length, is_some, OnOk, OnErr, IfOk, IfErr};
+ghost use Rattle.std.specs.Prelude.{◌≡◌, ◌∷◌, ◌++◌, ◌==◌, [], ℕ, Bool, true, None, Some, find, length, is_some, position, OnOk, OnErr, IfOk, IfErr};
+ghost use Rattle.std.specs.List.{list_any};
 ghost use Rattle.std.specs.Option.{option_copied};
 ghost use Rattle.topology.specs.Net.{Net};
 ghost use Rattle.chronicle.specs.Facts.{Chronicle, Visit as Came, End as Finished};
@@ -7,6 +8,7 @@ ghost use Rattle.chronicle.specs.Run.{does};
 ghost use Rattle.chronicle.specs.Steps.{Idle};
 ghost use Rattle.chronicle.specs.Walks.{standing, visit_of};
 ghost use Rattle.path_vector.specs.Rules.{Rules};
+ghost use Rattle.world_core.specs.Finding.{IsFound};
 ghost use Rattle.world_core.specs.Walks.{AreWalks, AreWalksBut, IsPassing, MayGo, Takes, is_of, still};
 
 use chronicle::Event;
@@ -113,23 +115,48 @@ impl Journey {
     }
 }
 
+// A packet that was found: its number, and its place among all packets.
+#[derive(Clone, Copy)]
+struct Found {
+    number: u32,
+    place: usize,
+}
+
 /// All packets, in the order in which they entered the network. They are found by their numbers.
 #[derive(Drop)]
 pub struct Walks {
     numbers: IndexSet<u32>,
     // At the place of its number.
     journeys: Vec<Journey>,
+    // The packet that was found last, which is mostly the next one to be found.
+    recent: Option<Found>,
 }
 
 impl Model for Walks {
     ghost use Rattle.std.specs.Prelude.{◌≡◌, List, map};
     ghost use Rattle.world_core.specs.Walks.{JourneyView, number_of};
+    ghost use Rattle.world_core.specs.Finding.{IsFound};
 
     ghost Value = { List JourneyView };
 
     ghost view = { λ w. w.journeys.items };
 
-    ghost invariant = { λ w. w.numbers.keys ≡ map number_of w.journeys.items };
+    ghost invariant = { λ w. (w.numbers.keys ≡ map number_of w.journeys.items) × IsFound w.recent w.numbers.keys };
+}
+
+// The place of a number. The one that was found last is tried first.
+#[inline(always)]
+fn place_of(numbers: &IndexSet<u32>, recent: &Option<Found>, number: u32) -> Option<usize>
+    requires { IsFound recent.now numbers.now.keys }
+    ensures index { result ≡ position (λ n. number == n) numbers.now.keys }
+    ensures found { is_some result ≡ list_any (λ n. number == n) numbers.now.keys }
+{
+    if let Some(found) = recent {
+        if found.number == number {
+            return Some(found.place);
+        }
+    }
+    numbers.get_index_of(&number)
 }
 
 impl Walks {
@@ -140,6 +167,7 @@ impl Walks {
         Walks {
             numbers: IndexSet::new(alloc),
             journeys: Vec::new(alloc),
+            recent: None,
         }
     }
 
@@ -154,7 +182,7 @@ impl Walks {
     pub fn of(&self, number: u32) -> Option<&Journey>
         ensures { option_copied result ≡ find (is_of number) self.now }
     {
-        let place = self.numbers.get_index_of(&number)?;
+        let place = place_of(&self.numbers, &self.recent, number)?;
         Some(&self.journeys[place])
     }
 
@@ -169,6 +197,7 @@ impl Walks {
         self.numbers.reserve(1)?;
         self.journeys.push(journey)?;
         self.numbers.insert(number).unwrap();
+        self.recent = None;
         Ok(())
     }
 
@@ -179,11 +208,13 @@ impl Walks {
             AreWalksBut (still (Came node packet.value) away) net (Came node packet.value ∷ past) self.new) }
         ensures err { OnErr result (self.new ≡ self.old) }
     {
-        let Some(place) = self.numbers.get_index_of(&packet.id) else {
+        let number = packet.id;
+        let Some(place) = place_of(&self.numbers, &self.recent, number) else {
             self.enter(node, packet)?;
             return Ok(());
         };
         self.journeys[place].go_on(node, packet)?;
+        self.recent = Some(Found { number, place });
         Ok(())
     }
 
@@ -197,7 +228,7 @@ impl Walks {
             does rules net past (Event.Hop number) ≡ Idle reason) }
         ensures unchanged { OnErr result (self.new ≡ self.old) }
     {
-        let Some(place) = self.numbers.get_index_of(&number) else {
+        let Some(place) = place_of(&self.numbers, &self.recent, number) else {
             return Err(Reason::NoSuchPacket);
         };
         let journey = &self.journeys[place];
@@ -206,6 +237,7 @@ impl Walks {
         }
         let node = journey.node();
         let packet = self.journeys[place].take();
+        self.recent = Some(Found { number, place });
         Ok((node, packet))
     }
 
@@ -215,7 +247,7 @@ impl Walks {
             is_some (standing number past) ≡ true →
             AreWalksBut (still (Finished number end) away) net (Finished number end ∷ past) self.new }
     {
-        if let Some(place) = self.numbers.get_index_of(&number) {
+        if let Some(place) = place_of(&self.numbers, &self.recent, number) {
             self.journeys[place].finish(end);
         }
     }

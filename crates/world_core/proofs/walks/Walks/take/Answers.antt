@@ -15,14 +15,14 @@ no_end (Some end) e = absurd (cc e)
 pub returns-in_default-clause-reason : goal.returns-in_default-clause-reason
 returns-in_default-clause-reason c rules net past was =
     let js = c.self.inside.journeys.items in
-    let none = none_kept c.self.inside.numbers.keys js c.args.number c.self.invariant (sym c.in_default.ensures.found) in
+    let none = none_kept c.self.inside.numbers.keys js c.args.number c.self.invariant.0 (sym c.in_default.ensures.found) in
     nowhere_stays net past js (subst (AreWalks net past) (sym c.self.view_is) was) rules c.args.number none
 
 pub returns-then-is_some-clause-reason : goal.returns-then-is_some-clause-reason
 returns-then-is_some-clause-reason c rules net past was =
     let js = c.self.inside.journeys.items in
     let x = c.index-journey.result.now in
-    let kept = kept_at c.self.inside.numbers.keys js c.args.number c.self.invariant c.in-Some.place x (sym c.in-Some.ensures.index) c.index-journey.ensures in
+    let kept = kept_at c.self.inside.numbers.keys js c.args.number c.self.invariant.0 c.in-Some.place x (sym c.in-Some.ensures.index) c.index-journey.ensures in
     let over = ap is_some (sym c.end.ensures) ∙ (sym c.is_some.ensures ∙ c.if-is_some.true) in
     ended_stays net past js (subst (AreWalks net past) (sym c.self.view_is) was) rules c.args.number x (found js c.args.number c.in-Some.place x kept) over
 
@@ -31,8 +31,8 @@ take-packet-requires c =
     let js = c.self.inside.journeys.items in
     let x = c.index-journey.result.now in
     let y = c.index_mut.result.now in
-    let first = kept_at c.self.inside.numbers.keys js c.args.number c.self.invariant c.in-Some.place x (sym c.in-Some.ensures.index) c.index-journey.ensures in
-    let place = kept_at c.self.inside.numbers.keys js c.args.number c.self.invariant c.in-Some.place y (sym c.in-Some.ensures.index) c.index_mut.ensures.value in
+    let first = kept_at c.self.inside.numbers.keys js c.args.number c.self.invariant.0 c.in-Some.place x (sym c.in-Some.ensures.index) c.index-journey.ensures in
+    let place = kept_at c.self.inside.numbers.keys js c.args.number c.self.invariant.0 c.in-Some.place y (sym c.in-Some.ensures.index) c.index_mut.ensures.value in
     let same = same_kept y x (sym (found js c.args.number c.in-Some.place y place) ∙ found js c.args.number c.in-Some.place x first) in
     let on = ap (λ (j : JourneyView). j.ending) same ∙ no_end x.ending (ap is_some (sym c.end.ensures) ∙ (sym c.is_some.ensures ∙ c.if-is_some.false)) in
     c.requires.is_here y (subst (λ l. find (is_of c.args.number) l ≡ Some y) c.self.view_is (found js c.args.number c.in-Some.place y place)) on
@@ -41,16 +41,16 @@ pub invariant_of-self : goal.invariant_of-self
 invariant_of-self c =
     let js = c.self.inside.journeys.items in
     let y = c.index_mut.result.now in
-    let place = kept_at c.self.inside.numbers.keys js c.args.number c.self.invariant c.in-Some.place y (sym c.in-Some.ensures.index) c.index_mut.ensures.value in
-    c.self.invariant ∙ sym (numbers_stay js c.in-Some.place y c.take-packet.new.self place.here (ap (λ j. j.number) c.take-packet.ensures.journey))
+    let place = kept_at c.self.inside.numbers.keys js c.args.number c.self.invariant.0 c.in-Some.place y (sym c.in-Some.ensures.index) c.index_mut.ensures.value in
+    (c.self.invariant.0 ∙ sym (numbers_stay js c.in-Some.place y c.take-packet.new.self place.here (ap (λ j. j.number) c.take-packet.ensures.journey)), sym c.in-Some.ensures.index)
 
 pub returns-clause-taken : goal.returns-clause-taken
 returns-clause-taken c net past was =
     let js = c.self.inside.journeys.items in
     let x = c.index-journey.result.now in
     let y = c.index_mut.result.now in
-    let first = kept_at c.self.inside.numbers.keys js c.args.number c.self.invariant c.in-Some.place x (sym c.in-Some.ensures.index) c.index-journey.ensures in
-    let place = kept_at c.self.inside.numbers.keys js c.args.number c.self.invariant c.in-Some.place y (sym c.in-Some.ensures.index) c.index_mut.ensures.value in
+    let first = kept_at c.self.inside.numbers.keys js c.args.number c.self.invariant.0 c.in-Some.place x (sym c.in-Some.ensures.index) c.index-journey.ensures in
+    let place = kept_at c.self.inside.numbers.keys js c.args.number c.self.invariant.0 c.in-Some.place y (sym c.in-Some.ensures.index) c.index_mut.ensures.value in
     let same = same_kept y x (sym (found js c.args.number c.in-Some.place y place) ∙ found js c.args.number c.in-Some.place x first) in
     let on = ap (λ (j : JourneyView). j.ending) same ∙ no_end x.ending (ap is_some (sym c.end.ensures) ∙ (sym c.is_some.ensures ∙ c.if-is_some.false)) in
     let packet = c.take-packet.result.value in

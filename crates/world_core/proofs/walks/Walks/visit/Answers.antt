@@ -8,22 +8,22 @@ use Rattle.world_core.proofs.Walking.{KeptAt, kept_at, none_kept, numbers_stay, 
 use Rattle.world_core.proofs.walks.Walks.visit.Goals as goal
 
 -- it is known, and has this place
-known_number : (c : goal.In_ok-go_on) → KeptAt c.self.inside.journeys.items c.args.packet.value.id c.in-Some.place c.index_mut.result.now
+known_number : (c : goal.After-self-2-1) → KeptAt c.self.inside.journeys.items c.args.packet.value.id c.in-Some.place c.index_mut.result.now
 known_number c =
-    kept_at c.self.inside.numbers.keys c.self.inside.journeys.items c.args.packet.value.id c.self.invariant c.in-Some.place c.index_mut.result.now
+    kept_at c.self.inside.numbers.keys c.self.inside.journeys.items c.args.packet.value.id c.self.invariant.0 c.in-Some.place c.index_mut.result.now
     (subst (λ (p : Packet). position (λ n. p.id == n) c.self.inside.numbers.keys ≡ Some c.in-Some.place) c.deref.ensures (sym c.in-Some.ensures.index)) c.index_mut.ensures.value
 
 pub enter-requires : goal.enter-requires
 enter-requires c =
     let new =
-    none_kept c.self.inside.numbers.keys c.self.inside.journeys.items c.args.packet.value.id c.self.invariant
+    none_kept c.self.inside.numbers.keys c.self.inside.journeys.items c.args.packet.value.id c.self.invariant.0
     (subst (λ (p : Packet). list_any (λ n. p.id == n) c.self.inside.numbers.keys ≡ false) c.deref.ensures (sym c.in_default.ensures.found)) in
     rw (← c.self.view_is) new
 
 pub returns-in_default-clause-ok : goal.returns-in_default-clause-ok
 returns-in_default-clause-ok c away net past was passing =
     let new =
-    none_kept c.self.inside.numbers.keys c.self.inside.journeys.items c.args.packet.value.id c.self.invariant
+    none_kept c.self.inside.numbers.keys c.self.inside.journeys.items c.args.packet.value.id c.self.invariant.0
     (subst (λ (p : Packet). list_any (λ n. p.id == n) c.self.inside.numbers.keys ≡ false) c.deref.ensures (sym c.in_default.ensures.found)) in
     let js = c.self.inside.journeys.items in
     let was_here = subst (AreWalksBut away net past) (sym c.self.view_is) was in
@@ -33,10 +33,12 @@ pub invariant_of-self-2 : goal.invariant_of-self-2
 invariant_of-self-2 c =
     let js = c.self.inside.journeys.items in
     let x = c.index_mut.result.now in
-    let kept = known_number c in
-    c.self.invariant
-    ∙ sym (numbers_stay js c.in-Some.place x c.go_on.new.self kept.here
-    (ap (λ j. j.number) c.in_ok-go_on.ensures.ok))
+    let kept = known_number c in (
+      c.self.invariant.0
+          ∙ sym (numbers_stay js c.in-Some.place x c.go_on.new.self kept.here
+          (ap (λ j. j.number) c.in_ok-go_on.ensures.ok)),
+      sym c.in-Some.ensures.index,
+    )
 
 pub returns-clause-ok : goal.returns-clause-ok
 returns-clause-ok c away net past was passing =
