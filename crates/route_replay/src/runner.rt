@@ -84,7 +84,7 @@ fn run_schedule<O: Sink>(
 }
 
 // Does what `replay` does, and ends the world so.
-fn replay_and<I: Source, O: Sink>(
+fn replay_ending<I: Source, O: Sink>(
     alloc: Global,
     source: &mut I,
     sink: &mut O,
@@ -120,13 +120,13 @@ fn replay_and<I: Source, O: Sink>(
 pub fn replay<I: Source, O: Sink>(alloc: Global, source: &mut I, sink: &mut O) -> Status
     ensures { Replayed (I.seen source.old) (I.seen source.new) (O.seen sink.old) (O.seen sink.new) result }
 {
-    replay_and(alloc, source, sink, AtEnd::Free)
+    replay_ending(alloc, source, sink, AtEnd::Free)
 }
 
-/// As [`replay`], for a process that ends behind it: a world that ran to its end does not give back its memory, which takes
-/// seven of a hundred instructions of a cold start. The system takes it back with the process.
+/// As [`replay`], for a process that ends behind it: a world that ran to its end does not give back its memory. The system takes
+/// it back with the process. Giving it back block by block costs seven of a hundred instructions of a cold start.
 pub fn replay_at_exit<I: Source, O: Sink>(alloc: Global, source: &mut I, sink: &mut O) -> Status
     ensures { Replayed (I.seen source.old) (I.seen source.new) (O.seen sink.old) (O.seen sink.new) result }
 {
-    replay_and(alloc, source, sink, AtEnd::Leave)
+    replay_ending(alloc, source, sink, AtEnd::Leave)
 }

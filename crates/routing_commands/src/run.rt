@@ -54,7 +54,8 @@ fn outcome<I: Source, O: Sink, L: Link, D: Disk>(
 /// it answers, and begins behind the frames that the file has; `audit` reads printed tables from the
 /// source, and writes one line where they are consistent; `lead` reads a script of members from the
 /// source, runs it, and writes its text. The notes get one line where the run ended before its time; a
-/// fault of theirs changes nothing. What a user may rely on stands in `specs/Headline.antt` and
+/// fault of theirs changes nothing. The process is to end behind this call: a replay leaves the memory of its world to the system
+/// (`replay_at_exit`). What a user may rely on stands in `specs/Headline.antt` and
 /// `specs/Notes.antt`, and command by command in `route_replay/specs/Replayed.antt` and `Loaded.antt`,
 /// `route_node/specs/Attended.antt` and `AttendedKept.antt`, `table_audit/specs/Audited.antt` and
 /// `leadership/specs/Led.antt`.

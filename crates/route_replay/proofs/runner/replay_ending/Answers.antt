@@ -11,7 +11,7 @@ use Rattle.route_replay.specs.Running.{AllFitting}
 use Rattle.route_replay.specs.Text.{events_of}
 use Rattle.route_replay.proofs.Fitting.{all_fit}
 use Rattle.route_replay.proofs.Probing.{EachDelivers, are_probed}
-use Rattle.route_replay.proofs.runner.replay_and.Goals as goal
+use Rattle.route_replay.proofs.runner.replay_ending.Goals as goal
 
 -- the directives of a file fit its network
 fits_as : (schedule : Schedule) (net : Net) (directives : List Numbered) → schedule.topology ≡ net → schedule.lines.items ≡ directives → AreDirected schedule.topology schedule.lines.items → AllFitting net directives
