@@ -100,11 +100,6 @@ some_received true n count e = (refl, cc e)
 some_received false n count e = absurd (cc e)
 
 module _ (rules : Rules) (net : Net) (u : ℕ) (past : Chronicle) where
-  -- what is decided of an input that is this one
-  pub decided_as : (input i : Given) (act : Duty) → input ≡ i → (MayCome net u (input_of i) → IsDecided rules net u past (input_of i) (Ok act)) → MayCome net u (input_of input)
-      → IsDecided rules net u past (input_of input) (Ok act)
-  decided_as input i act is decided = subst (λ x. MayCome net u (input_of x) → IsDecided rules net u past (input_of x) (Ok act)) (sym is) decided
-
   module _ (p : ℕ) (inside : p < length net.prefixes) (r : Bool) (owned : r ≡ owns (reads (log_of u past)) p) where
     pub originates : r ≡ false → IsDecided rules net u past (Originate p) (Ok (Enter (One p) cause.Originate))
     unfolding answer

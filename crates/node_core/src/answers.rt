@@ -268,7 +268,8 @@ impl<P: Policy + Copy> Node<P> {
             Input::Prefer { nbr, value } => {
                 let scope = Scope::All;
                 let cause = Cause::Prefer { nbr, value };
-                Ok(self.perform(Duty::Enter { scope, cause }, outputs)?)
+                let decided = Ok(Duty::Enter { scope, cause });
+                Ok(self.follow(decided, outputs)?)
             }
             Input::Notice(nbr) => {
                 let decided = self.decide_closing(nbr);
@@ -284,7 +285,8 @@ impl<P: Policy + Copy> Node<P> {
             }
             Input::Snap => {
                 let epoch = self.next_epoch();
-                Ok(self.perform(Duty::Rise { epoch }, outputs)?)
+                let decided = Ok(Duty::Rise { epoch });
+                Ok(self.follow(decided, outputs)?)
             }
         }
     }

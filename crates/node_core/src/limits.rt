@@ -64,6 +64,7 @@ impl<P: Policy + Copy> Node<P> {
 
     /// The stop at the first count that is above its number, in the order epoch, lists of triggers, entries, items.
     /// None where no count is. Takes no memory.
+    #[inline(always)]
     pub(crate) fn limit(&self) -> Option<Stop>
         ensures some { IfSome result (λ stop. (policy : P) (net : Net) (u : ℕ) (past : Chronicle) →
             Follows policy (P.rules policy) net u self.now past → StopsAt (node_above (P.rules policy) net u past) stop) }

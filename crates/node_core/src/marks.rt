@@ -128,7 +128,6 @@ impl<P: Policy + Copy> Node<P> {
     }
 
     /// Raises the epoch: the node takes its cut, sends its markers, and keeps and mails its report of the cut.
-    #[inline(always)]
     pub(crate) fn raise(self, epoch: Epoch, outputs: &mut OutputList) -> Result<Node<P>, NoMemory>
         ensures others { IfOk result (λ node. KeepsAllBut self node) }
         ensures snapshots { IfOk result (λ node. (policy : P) (net : Net) (u : ℕ) (h : List Entry) (acts : SnapshotActs) →

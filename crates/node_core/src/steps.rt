@@ -67,7 +67,6 @@ impl<P: Policy + Copy> Node<P> {
     }
 
     // The node makes an entry that lists its own next trigger.
-    #[inline(always)]
     fn enter_own(
         self,
         scope: Scope,
@@ -83,7 +82,6 @@ impl<P: Policy + Copy> Node<P> {
     }
 
     // The node opens a session, and sends its neighbour a greeting with its epoch.
-    #[inline(always)]
     fn open(
         self,
         nbr: NodeId,
@@ -108,7 +106,6 @@ impl<P: Policy + Copy> Node<P> {
 
     // The node is greeted in the session that it holds. It enters that the other end is ready, unless the log says so
     // already.
-    #[inline(always)]
     fn greet(
         self,
         nbr: NodeId,
@@ -137,7 +134,6 @@ impl<P: Policy + Copy> Node<P> {
     }
 
     // The node sends the updates that it holds back from the neighbour, and makes an entry for it, without triggers.
-    #[inline(always)]
     fn flush(self, nbr: NodeId, outputs: &mut OutputList) -> Result<Node<P>, NoMemory>
         ensures agreement { IfOk result (λ node. AgreesAs self.parts.value.agreement node.parts.value.agreement) }
         ensures node { IfOk result (KeepsAct P.rules (InMidst P.rules self) (Duty.Flush nbr)) }
