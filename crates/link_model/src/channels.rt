@@ -59,6 +59,7 @@ impl Channel {
 
     /// Sends an item in a session. Returns true if the item is queued, and false if the link does not carry that
     /// session; then the item is lost.
+    #[inline(always)]
     pub fn push(&mut self, session: Session, item: Item) -> Result<bool, NoMemory>
         ensures ok { IfOk result (λ queued. queued ≡ carries self.old.state session) }
         ensures new { IfOk result (λ queued. self.new ≡ after_push session item self.old) }
