@@ -4,6 +4,7 @@ pub mod Walks
 pub mod Finding
 pub mod Fits
 pub mod Effects
+pub mod EffectLists
 pub mod Accounts
 pub mod Limits
 pub mod Places

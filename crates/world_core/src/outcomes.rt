@@ -1,10 +1,12 @@
 //! The outcome of an event.
-ghost use Rattle.std.specs.Prelude.{◌≡◌};
+ghost use Rattle.std.specs.Prelude.{◌≡◌, ◌++◌, ◌∷◌, [], OnErr, OnOk};
 
 use epoch_packet::{End, Visit};
 pub use node_core::Stop;
+use std::alloc::Global;
 use std::marker::Model;
-use topology::{Epoch, NodeId, Reason};
+use std::slice;
+use topology::{Epoch, NoMemory, NodeId, Reason};
 
 /// One thing that an event did.
 #[derive(Clone, Copy, Debug, PartialEq, Eq)]
@@ -27,33 +29,74 @@ pub enum Effect {
     Ended { packet: u32, end: End },
 }
 
-/// The effects of an event, in their order.
+// How many effects a list has room for when it is made.
+const LIST_ROOM: usize = 4;
+
+// The effects: none, one in place, or a list of two or more.
+#[derive(Debug, Drop)]
+enum Kept {
+    Nothing,
+    One(Effect),
+    Many(Vec<Effect>),
+}
+
+/// The effects of an event, in their order. One effect takes no memory.
 #[derive(Debug, Drop)]
 pub struct Effects {
-    list: Vec<Effect>,
+    kept: Kept,
 }
 
 impl Model for Effects {
     ghost use Rattle.std.specs.Prelude.{List};
     ghost use Rattle.world_core.specs.declared.outcomes.Effect.{Effect};
+    ghost use Rattle.world_core.specs.EffectLists.{listed_effects};
 
     ghost Value = { List Effect };
 
-    ghost view = { λ e. e.list.items };
+    ghost view = { λ e. listed_effects e.kept };
 }
 
 impl Effects {
-    /// The list of these effects. Takes no memory.
-    pub fn new(list: Vec<Effect>) -> Effects
-        ensures { result ≡ list.items }
+    /// No effect. Takes no memory.
+    pub fn none() -> Effects
+        ensures { result ≡ [] }
     {
-        Effects { list }
+        Effects {
+            kept: Kept::Nothing,
+        }
     }
 
+    /// Adds an effect behind the others. After want of memory the effects are as they were.
+    pub(crate) fn push(&mut self, alloc: Global, effect: Effect) -> Result<(), NoMemory>
+        ensures ok { OnOk result (self.new ≡ self.old ++ effect ∷ []) }
+        ensures err { OnErr result (self.new ≡ self.old) }
+    {
+        match &mut self.kept {
+            Kept::Nothing => self.kept = Kept::One(effect),
+            Kept::One(first) => {
+                let mut list = Vec::with_capacity(alloc, LIST_ROOM)?;
+                list.push(*first)?;
+                list.push(effect)?;
+                self.kept = Kept::Many(list);
+            }
+            Kept::Many(list) => {
+                // Reserve first, which saves a copy.
+                list.reserve(1)?;
+                list.push_reserved(effect);
+            }
+        }
+        Ok(())
+    }
+
+    /// The effects, the first one first.
     pub fn as_slice(&self) -> &[Effect]
         ensures { result.now ≡ self.now }
     {
-        &self.list
+        match &self.kept {
+            Kept::Nothing => &[],
+            Kept::One(effect) => slice::from_ref(effect),
+            Kept::Many(list) => list,
+        }
     }
 }
 

@@ -1,7 +1,7 @@
 //! The list of the effects of an event.
 ghost use Rattle.std.specs.Prelude.{◌≡◌, [], ◌∷◌, ◌++◌, OnOk};
 
-use crate::outcomes::Effect;
+use crate::outcomes::{Effect, Effects};
 use std::alloc::Global;
 use std::marker::Model;
 use topology::NoMemory;
@@ -9,7 +9,7 @@ use topology::NoMemory;
 /// Whether the caller of an event wants the list of its effects. Only [`Account::tell`] asks.
 #[derive(Clone, Copy)]
 pub enum Wanted {
-    /// `World::deliver_next` does not: it answers the way alone. No list is made, so a drain takes no memory for one.
+    /// `World::deliver_next` does not: it answers the way alone. No effect is kept, so a drain takes no memory for them.
     NoEffects,
     /// `World::step` does: its outcome has the list.
     Effects,
@@ -18,8 +18,9 @@ pub enum Wanted {
 /// The effects of an event, in their order. Where no effects are wanted, the list stays empty.
 #[derive(Drop)]
 pub struct Account {
+    alloc: Global,
     wanted: Wanted,
-    list: Vec<Effect>,
+    effects: Effects,
 }
 
 impl Model for Account {
@@ -27,7 +28,7 @@ impl Model for Account {
 
     ghost Value = { AccountView };
 
-    ghost view = { λ a. record { wanted = a.wanted; list = a.list.items } };
+    ghost view = { λ a. record { wanted = a.wanted; list = a.effects } };
 }
 
 impl Account {
@@ -36,8 +37,9 @@ impl Account {
         ensures { result ≡ record { wanted = wanted; list = [] } }
     {
         Account {
+            alloc,
             wanted,
-            list: Vec::new(alloc),
+            effects: Effects::none(),
         }
     }
 
@@ -48,19 +50,15 @@ impl Account {
         ensures told { OnOk result (self.old.wanted ≡ Wanted.Effects → self.new.list ≡ self.old.list ++ effect ∷ []) }
     {
         match self.wanted {
-            Wanted::NoEffects => return Ok(()),
-            Wanted::Effects => {}
+            Wanted::NoEffects => Ok(()),
+            Wanted::Effects => self.effects.push(self.alloc, effect),
         }
-        // Reserve first, which saves a copy.
-        self.list.reserve(1)?;
-        self.list.push_reserved(effect);
-        Ok(())
     }
 
-    /// The effects as a list. Takes no memory.
-    pub fn into_list(self) -> Vec<Effect>
-        ensures { result.items ≡ self.list }
+    /// The effects. Takes no memory.
+    pub fn into_effects(self) -> Effects
+        ensures { result ≡ self.list }
     {
-        self.list
+        self.effects
     }
 }

@@ -313,8 +313,7 @@ impl<P: Policy + Copy> Network<P> {
         if !self.links.fail(a, b) {
             return Outcome::Idle(Reason::AlreadyDown);
         }
-        let unseen = Effects::new(Vec::new(self.alloc));
-        Outcome::Did(unseen)
+        Outcome::Did(Effects::none())
     }
 
     // The link comes up again, with the next session.
@@ -327,8 +326,7 @@ impl<P: Policy + Copy> Network<P> {
         if !self.links.restore(a, b) {
             return Outcome::Idle(Reason::AlreadyUp);
         }
-        let unseen = Effects::new(Vec::new(self.alloc));
-        Outcome::Did(unseen)
+        Outcome::Did(Effects::none())
     }
 
     // Sets whether the node is crashed.
@@ -371,8 +369,7 @@ impl<P: Policy + Copy> Network<P> {
         self.set_crashed(node, true);
         self.forget(node);
         self.mails.crash(node);
-        let unseen = Effects::new(Vec::new(self.alloc));
-        Outcome::Did(unseen)
+        Outcome::Did(Effects::none())
     }
 
     // The node restarts.
@@ -389,7 +386,6 @@ impl<P: Policy + Copy> Network<P> {
         }
         self.set_crashed(node, false);
         self.mails.restart(node);
-        let unseen = Effects::new(Vec::new(self.alloc));
-        Outcome::Did(unseen)
+        Outcome::Did(Effects::none())
     }
 }

@@ -103,6 +103,6 @@ impl<P: Policy + Copy> Network<P> {
         self.check_control()?;
         self.check_packets()?;
         self.check_marks(rank)?;
-        Ok(Outcome::Did(Effects::new(effects)))
+        Ok(Outcome::Did(effects))
     }
 }

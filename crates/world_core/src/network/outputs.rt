@@ -21,7 +21,7 @@ ghost use Rattle.world_core.specs.declared.outcomes.Effect.TheVariants.{Queued, 
 
 use crate::network::Network;
 use crate::network::account::{Account, Wanted};
-use crate::outcomes::Effect;
+use crate::outcomes::{Effect, Effects};
 use crate::publications::Publication;
 use crate::walks::{Walks, visit_of};
 use consolidator::Mail;
@@ -235,20 +235,20 @@ impl<P: Policy + Copy> Network<P> {
 
     /// Handles the outputs of a node, in their order, and returns their effects where the caller wants them.
     #[inline(always)]
-    pub fn hand_all(&mut self, node: NodeId, wanted: Wanted) -> Result<Vec<Effect>, NoMemory>
+    pub fn hand_all(&mut self, node: NodeId, wanted: Wanted) -> Result<Effects, NoMemory>
         ensures kept { OnOk result (KeepsNodes self.old self.new) }
         ensures sending { IfOk result (λ effects. (away : ℕ → Bool) (first past : Chronicle) (counts : Counts) (facts : List Fact) →
             AreTold self.old.topology.value node past facts → Hands past self.old.outputs (happen past facts) →
             AreSending away first past counts self.old (record { wanted = wanted; list = [] }) →
-            AreSending (still_after facts away) first (happen past facts) counts self.new (record { wanted = wanted; list = effects.items })) }
+            AreSending (still_after facts away) first (happen past facts) counts self.new (record { wanted = wanted; list = effects })) }
     {
         let mut account = Account::new(self.alloc, wanted);
         let leading = self.outputs.take_first();
         self.hand_first(node, leading, &mut account)?;
         if self.outputs.is_empty() {
-            return Ok(account.into_list());
+            return Ok(account.into_effects());
         }
         self.hand_more(node, &mut account)?;
-        Ok(account.into_list())
+        Ok(account.into_effects())
     }
 }

@@ -13,4 +13,4 @@ returns-clause-comes g c past counts was =
     did rules past counts _ (fact.Crash u ∷ past) _ _ (crash_step rules net past u)
     (crash_stands g.P.Policy.rules past counts u c.args.self.now c.set_crashed.new.self c.forget.new.self c.crash.new.self set.others set.kept c.forget.ensures.others c.forget.ensures.kept c.requires.node
     was (set.flags past (fact.Crash u ∷ past) was.are_crashed (λ v. refl)) (c.forget.ensures.nodes past) c.crash.ensures)
-    (rw (c.new-unseen.ensures, c.new.ensures.items) refl)
+    (rw c.none.ensures refl)

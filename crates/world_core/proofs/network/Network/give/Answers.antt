@@ -148,7 +148,7 @@ turned_now g c past counts may =
 sent_now : (g : Over) (c : In_ok-effects g) (past : Chronicle) (counts : Counts) → MayHand (g.P.Policy.rules c.args.self.now.policy) past counts c.args.node (input_of c.args.input) c.args.self.now
     → Answers past (what c.args.self.now.policy g.P.Policy.rules c.args.self.now.topology.value past c.args.node c.args.input) (Did c.turn.new.outputs)
     → AreSending (λ k. false) (begun c.args.node (input_of c.args.input) past) (chronicle_of past (what c.args.self.now.policy g.P.Policy.rules c.args.self.now.topology.value past c.args.node c.args.input)) counts
-    c.hand_all.new.self (record { wanted = c.args.wanted; list = c.in_ok-effects.effects.items })
+    c.hand_all.new.self (record { wanted = c.args.wanted; list = c.in_ok-effects.effects })
 sent_now g c past counts may answers =
     let policy = c.args.self.now.policy in
     let rules = g.P.Policy.rules policy in
@@ -158,7 +158,7 @@ sent_now g c past counts may answers =
     let mid = record c.args.self.now { nodes = c.turn.new.nodes; outputs = c.turn.new.outputs; triggers = c.in_ok-self.field-0 } in
     let start = sending_begun past counts u (input_of i) mid c.args.wanted may.are_links may.are_mails may.are_published may.are_walks in
     let adds = give_adds rules net (carried_by u past) u past (λ w t. refl) may.are_nodes.valid c.requires.node (input_of i) may.may_come may.sender may.passing in
-    given_sent net past counts u (input_of i) (what policy g.P.Policy.rules net past u i) c.turn.new.outputs c.turn.new.outputs mid c.hand_all.new.self (record { wanted = c.args.wanted; list = [] }) (record { wanted = c.args.wanted; list = c.in_ok-effects.effects.items }) refl adds (comes_back rules net u past (input_of i)) answers start
+    given_sent net past counts u (input_of i) (what policy g.P.Policy.rules net past u i) c.turn.new.outputs c.turn.new.outputs mid c.hand_all.new.self (record { wanted = c.args.wanted; list = [] }) (record { wanted = c.args.wanted; list = c.in_ok-effects.effects }) refl adds (comes_back rules net u past (input_of i)) answers start
     (λ away first mid facts told hands sending. c.in_ok-effects.ensures.sending away first mid counts facts told hands sending)
 
 pub returns-in_err-self-clause-stopped : goal.returns-in_err-self-clause-stopped
@@ -259,7 +259,7 @@ returns-clause-stands g c past counts may =
     let kept = subst (λ nodes. AreNodes policy rules net (chronicle_of past s) nodes.items) (sym c.in_ok-effects.ensures.kept.nodes) turned.nodes_now in
     let few_marks = marks_at rules net past (chronicle_of past s) u c.requires.node (others_same policy g.P.Policy.rules net past u i) may.counted.few_marks ∙ c.in_ok-check_marks.ensures.ok policy net (chronicle_of past s) u kept at in
     let counted = c.in_ok-self.ensures.ok in
-    sent_stands rules past s counts (record c.args.self.now { nodes = c.turn.new.nodes; outputs = c.turn.new.outputs; triggers = c.in_ok-self.field-0 }) c.hand_all.new.self (record { wanted = c.args.wanted; list = c.in_ok-effects.effects.items }) (begun u (input_of i) past) c.in_ok-effects.ensures.kept turned.nodes_now
+    sent_stands rules past s counts (record c.args.self.now { nodes = c.turn.new.nodes; outputs = c.turn.new.outputs; triggers = c.in_ok-self.field-0 }) c.hand_all.new.self (record { wanted = c.args.wanted; list = c.in_ok-effects.effects }) (begun u (input_of i) past) c.in_ok-effects.ensures.kept turned.nodes_now
     (given_flags rules net past u (input_of i) c.args.self.now.crashed.items may.are_crashed) (counted.0 ∙ turned.total) counted.1 few_mails few_packets few_marks sent
 
 pub returns-clause-comes : goal.returns-clause-comes
@@ -268,5 +268,5 @@ returns-clause-comes g c wanted past counts may =
     let sent = sent_now g (goal.at.returns-clause-comes g c).In_ok-effects past counts may turned.answers in
     record {
       stands = returns-clause-stands g c past counts may;
-      tells = rw c.new.ensures (given_tells past c.args.node (input_of c.args.input) (what c.args.self.now.policy g.P.Policy.rules c.args.self.now.topology.value past c.args.node c.args.input) c.turn.new.outputs c.in_ok-effects.effects.items turned.answers (sent.since wanted));
+      tells = given_tells past c.args.node (input_of c.args.input) (what c.args.self.now.policy g.P.Policy.rules c.args.self.now.topology.value past c.args.node c.args.input) c.turn.new.outputs c.in_ok-effects.effects turned.answers (sent.since wanted);
     }

@@ -22,7 +22,7 @@ returns-then-is_empty-clause-sending g c away first past counts facts told hands
     let wanted = c.in_ok-hand_first.ensures.wanted ∙ ap (λ a. a.wanted) c.new-account.ensures in
     let whole = ap (map output_of) (sym (append-nil leading) ∙ (ap (λ l. leading ++ l) (sym none) ∙ sym c.take_first-leading.ensures)) in
     subst (AreSending (still_after facts away) first (happen past facts) counts c.hand_first.new.self)
-    (told_whole c.hand_first.new.account c.args.wanted c.into_list.result.items wanted c.into_list.ensures)
+    (told_whole c.hand_first.new.account c.args.wanted c.into_effects.result wanted c.into_effects.ensures)
     (c.in_ok-hand_first.ensures.sending away first past counts facts told (whole ∙ hands_shown past facts c.args.self.now.outputs hands) start)
 
 pub returns-clause-kept : goal.returns-clause-kept
@@ -41,7 +41,7 @@ returns-clause-sending g c away first past counts facts told hands was =
     let left = c.in_ok-hand_first.ensures.outputs in
     let whole = ap (map output_of) (c.take_first-leading.ensures ∙ ap (λ l. leading ++ l) (sym left)) ∙ map-append output_of leading c.hand_first.new.self.outputs in
     subst (AreSending (still_after facts away) first (happen past facts) counts c.hand_more.new.self)
-    (told_whole c.hand_more.new.account c.args.wanted c.into_list-2.result.items wanted c.into_list-2.ensures)
+    (told_whole c.hand_more.new.account c.args.wanted c.into_effects-2.result wanted c.into_effects-2.ensures)
     (c.in_ok-hand_more.ensures.sending away first past counts (map output_of leading)
     (λ fs some same. c.in_ok-hand_first.ensures.sending away first past counts fs (subst (λ n. AreTold n c.args.node past fs) kept some) same start)
     facts (subst (λ n. AreTold n c.args.node past facts) (sym kept) told)

@@ -21,4 +21,4 @@ returns-clause-comes g c past counts was =
     (restart_crashed rules net past u (sym (c.is_crashed.ensures past counts was c.requires.node) ∙ c.if-not-is_crashed.false))
     (restart_stands g.P.Policy.rules past counts u c.args.self.now c.set_crashed.new.self c.restart.new.self c.others_change_nothing_of_what_a_node_stands_for.ensures.beside set.others set.kept c.requires.node
     was (set.flags past (fact.Restart u ∷ past) was.are_crashed (λ v. refl)) c.restart.ensures)
-    (rw (c.new-unseen.ensures, c.new.ensures.items) refl)
+    (rw c.none.ensures refl)

@@ -48,4 +48,4 @@ returns-clause-comes g c past counts was regular =
       are_walks = walks_stay net past (fact.Restore a b ∷ past) c.args.self.now.walks (same_more (fact.Restore a b) past past (λ t. t) (same_now past)) was.are_walks;
       counted = restore_counted rules net past a b c.args.self.now.triggers was.counted;
     })
-    (rw (c.new-unseen.ensures, c.new.ensures.items) refl)
+    (rw c.none.ensures refl)
