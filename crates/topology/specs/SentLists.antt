@@ -1,5 +1,5 @@
 -- The items that an entry sent, as they are kept.
-use Rattle.std.specs.Prelude.{ℕ, Bool, ◌+◌, ◌≡◌, ◌≤◌, ◌<◌, ◌^◌, nat_lt, List, [], ◌∷◌, length}
+use Rattle.std.specs.Prelude.{ℕ, Bool, ◌+◌, ◌≡◌, ◌≤◌, ◌<◌, ◌^◌, nat_lt, List, [], ◌∷◌, ◌++◌, length}
 use Rattle.std.specs.List.{AllByRecursion}
 use Rattle.topology.specs.declared.names.Trigger.{Trigger}
 use Rattle.topology.specs.declared.items.Sent.{Sent}
@@ -22,13 +22,22 @@ IsSmall t item = (item.triggers ≡ t ∷ []) × (item.session < 2 ^ 16) × (ite
 abbrev pub AreAlike : Trigger → List Sent → Type 0
 AreAlike t items = (length items ≤ 2) × AllByRecursion (IsSmall t) items
 
+-- the items are not so for one and the same trigger
+abbrev pub AreUnlike : List Sent → Type 0
+AreUnlike items = (t : Trigger) → AllByRecursion (IsSmall t) items → ⊥
+
+-- items that stand whole behind those in six bytes are there for a reason: not all together could stand in six bytes
+abbrev pub AreWholeForReason : List Sent → List Sent → Type 0
+AreWholeForReason first [] = Unit {0}
+AreWholeForReason first (item ∷ others) = AreUnlike (first ++ item ∷ others)
+
 -- what is shared could not stand in place, and what has items one by one could not be packed
 abbrev pub IsUnlike : Kept → Type 0
 IsUnlike Nothing = Unit {0}
 IsUnlike (One items) = Unit {0}
 IsUnlike (Two items) = Unit {0}
 IsUnlike (Alike items) = (t : Trigger) → AreAlike t items.value → ⊥
-IsUnlike (Many items) = (t : Trigger) → AllByRecursion (IsSmall t) items.value.items → ⊥
+IsUnlike (Many items) = AreUnlike items.value.items
 
 -- how many triggers the items list, counted once for each item
 abbrev pub marks_of : List Sent → ℕ

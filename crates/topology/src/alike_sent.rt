@@ -26,15 +26,24 @@ pub struct ShortSent {
 }
 
 impl ShortSent {
-    /// This item, where its session and its number have two bytes.
+    /// The only trigger that this item lists, and the item without it. `None` exactly where it lists another number of
+    /// triggers, or its session or its number does not have two bytes.
     #[inline(always)]
-    pub(crate) fn of(to: NodeId, session: Session, seq: u32) -> Option<ShortSent>
-        ensures some { IfSome result (λ item. (t : AnyTrigger) →
-            unpacked t item ≡ record { to = to; session = session; seq = seq; triggers = t ∷ [] }) }
+    pub(crate) fn of(
+        to: NodeId,
+        session: Session,
+        seq: u32,
+        triggers: &Triggers,
+    ) -> Option<(Trigger, ShortSent)>
+        ensures some { IfSome result (λ found.
+            unpacked found.0 found.1 ≡ record { to = to; session = session; seq = seq; triggers = triggers.now }) }
+        ensures none { IsNone result → (t : AnyTrigger) →
+            IsSmall t (record { to = to; session = session; seq = seq; triggers = triggers.now }) → ⊥ }
     {
+        let trigger = only(triggers)?;
         let session = short(session.number())?;
         let seq = short(seq)?;
-        Some(ShortSent { to, session, seq })
+        Some((trigger, ShortSent { to, session, seq }))
     }
 
     /// The item, which lists this trigger.
@@ -72,16 +81,11 @@ fn packed(item: &Sent, trigger: &Trigger) -> Option<ShortSent>
     ensures some { IfSome result (λ packed. unpacked trigger.now packed ≡ item.now) }
     ensures none { IsNone result → IsSmall trigger.now item.now → ⊥ }
 {
-    if only(&item.triggers)? != *trigger {
+    let (own, packed) = ShortSent::of(item.to, item.session, item.seq, &item.triggers)?;
+    if own != *trigger {
         return None;
     }
-    let session = short(item.session.number())?;
-    let seq = short(item.seq)?;
-    Some(ShortSent {
-        to: item.to,
-        session,
-        seq,
-    })
+    Some(packed)
 }
 
 // The items without the trigger, where each is so.

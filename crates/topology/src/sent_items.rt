@@ -112,9 +112,11 @@ impl SentItems {
         }
     }
 
-    /// The items of this list.
+    /// The items of this list. Up to two of them that list one and the same trigger, in sessions and with numbers below 65,536,
+    /// take no memory.
     pub fn of_list(alloc: Global, list: &SentList) -> Result<SentItems, NoMemory>
-        ensures { IfOk result (λ sent. sent ≡ list.now) }
+        ensures items { IfOk result (λ sent. sent ≡ list.now) }
+        ensures few { (t : Trigger) → AreAlike t list.now → IsOk result }
     {
         let Some((trigger, items)) = list.short() else {
             return SentItems::of(alloc, &list.whole(alloc)?);

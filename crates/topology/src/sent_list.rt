@@ -1,10 +1,10 @@
 //! The items of an entry while they are listed.
-ghost use Rattle.std.specs.Prelude.{◌≡◌, ◌++◌, ◌∷◌, [], map, IfOk, IfSome, IsTrue, OnOk};
+ghost use Rattle.std.specs.Prelude.{◌≡◌, ◌≢◌, ◌++◌, ◌∷◌, [], map, IfOk, IfSome, IsNone, IsTrue, IsFalse, OnOk, OnErr};
 ghost use Rattle.topology.specs.AlikeLists.{unpacked};
+ghost use Rattle.topology.specs.SentLists.{AreUnlike};
 
 use crate::alike_sent::ShortSent;
 use crate::items::Sent;
-use crate::packed_sent::only;
 use crate::{NoMemory, NodeId, Session, Trigger, Triggers};
 use std::alloc::Global;
 use std::marker::Model;
@@ -26,15 +26,22 @@ impl Model for SentList {
 
     ghost Value = { List Sent };
 
+    ghost use Rattle.topology.specs.SentLists.{AreWholeForReason};
+
     ghost view = { λ l. map (unpacked l.trigger) l.first.items ++ l.others.items };
+
+    ghost invariant = { λ l. AreWholeForReason (map (unpacked l.trigger) l.first.items) l.others.items };
 }
 
-// Whether the items may list the second trigger in the place of the first: whether there are none, or it is the same.
+// Whether one more item may stand behind the first in six bytes, for this trigger: none stands whole, and the first, if there
+// are any, list the same trigger.
 #[inline(always)]
-fn is_same_for(items: &[ShortSent], one: &Trigger, other: &Trigger) -> bool
-    ensures { IsTrue result → map (unpacked one.now) items.now ≡ map (unpacked other.now) items.now }
+fn may_stand_behind(first: &[ShortSent], others: &[Sent], own: &Trigger, trigger: &Trigger) -> bool
+    ensures none { IsTrue result → others.now ≡ [] }
+    ensures same { IsTrue result → map (unpacked own.now) first.now ≡ map (unpacked trigger.now) first.now }
+    ensures no { IsFalse result → others.now ≡ [] → (first.now ≢ []) × (own.now ≢ trigger.now) }
 {
-    items.is_empty() || *one == *other
+    others.is_empty() && (first.is_empty() || *own == *trigger)
 }
 
 impl SentList {
@@ -72,24 +79,22 @@ impl SentList {
         seq: u32,
         triggers: &Triggers,
     ) -> Result<(), NoMemory>
-        ensures { OnOk result (self.new ≡ self.old ++ record { to = to; session = session; seq = seq; triggers = triggers.now } ∷ []) }
+        ensures ok { OnOk result (self.new ≡ self.old ++ record { to = to; session = session; seq = seq; triggers = triggers.now } ∷ []) }
+        ensures err { OnErr result (self.new ≡ self.old) }
     {
-        if let Some(trigger) = only(triggers) {
-            if let Some(item) = ShortSent::of(to, session, seq) {
-                if self.others.as_slice().is_empty()
-                    && is_same_for(&self.first, &self.trigger, &trigger)
-                {
-                    self.first.reserve(1)?;
-                    self.trigger = trigger;
-                    self.first.push_reserved(item);
-                    return Ok(());
-                }
-            }
+        let Some((trigger, item)) = ShortSent::of(to, session, seq, triggers) else {
+            return self.push_whole(to, session, seq, triggers);
+        };
+        if !may_stand_behind(&self.first, &self.others, &self.trigger, &trigger) {
+            return self.push_whole(to, session, seq, triggers);
         }
-        self.push_whole(to, session, seq, triggers)
+        self.first.reserve(1)?;
+        self.trigger = trigger;
+        self.first.push_reserved(item);
+        Ok(())
     }
 
-    // Adds an item behind all others.
+    // Adds an item behind all others, which cannot stand in six bytes with them.
     #[inline(never)]
     fn push_whole(
         &mut self,
@@ -98,7 +103,9 @@ impl SentList {
         seq: u32,
         triggers: &Triggers,
     ) -> Result<(), NoMemory>
-        ensures { OnOk result (self.new ≡ self.old ++ record { to = to; session = session; seq = seq; triggers = triggers.now } ∷ []) }
+        requires { AreUnlike (self.old ++ record { to = to; session = session; seq = seq; triggers = triggers.now } ∷ []) }
+        ensures ok { OnOk result (self.new ≡ self.old ++ record { to = to; session = session; seq = seq; triggers = triggers.now } ∷ []) }
+        ensures err { OnErr result (self.new ≡ self.old) }
     {
         self.others.push(Sent {
             to,
@@ -112,7 +119,8 @@ impl SentList {
     /// The items in six bytes and the trigger that each of them lists, where all are such.
     #[inline(always)]
     pub(crate) fn short(&self) -> Option<(Trigger, &[ShortSent])>
-        ensures { IfSome result (λ found. self.now ≡ map (unpacked found.0) found.1.now) }
+        ensures some { IfSome result (λ found. self.now ≡ map (unpacked found.0) found.1.now) }
+        ensures none { IsNone result → AreUnlike self.now }
     {
         if !self.others.is_empty() {
             return None;
