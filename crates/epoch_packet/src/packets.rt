@@ -29,18 +29,17 @@ pub struct Packet {
 impl Packet {
     ghost use Rattle.epoch_packet.specs.Packets.{moved_to, turned};
 
-    /// The packet after a move to a node along the stable tables. Takes no memory.
-    pub fn moved_to(self, topology: &Topology, node: NodeId) -> Packet
-        ensures { result ≡ moved_to topology.now node self }
+    /// The packet moves to a node along the stable tables. Takes no memory.
+    pub fn move_to(&mut self, topology: &Topology, node: NodeId)
+        ensures { self.new ≡ moved_to topology.now node self.old }
     {
-        let visited = with_visited(topology, self.visited, node);
-        Packet { visited, ..self }
+        self.visited = with_visited(topology, self.visited, node);
     }
 
-    /// The packet after it left the stable tables at a node. Takes no memory.
+    /// The packet leaves the stable tables at a node. Takes no memory.
     #[tactic(auto, unfolding(crate::specs::Packets::turned))]
-    pub fn turned(mut self, topology: &Topology, at: NodeId) -> Packet
-        ensures { result ≡ turned topology.now at self }
+    pub fn turn(&mut self, topology: &Topology, at: NodeId)
+        ensures { self.new ≡ turned topology.now at self.old }
     {
         self.mode = Mode::Transient;
         self.budget = topology.hops();
@@ -51,7 +50,6 @@ impl Packet {
         };
         self.trail.clear();
         self.route.clear();
-        self
     }
 }
 

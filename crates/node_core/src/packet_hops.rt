@@ -78,33 +78,35 @@ impl<P: Policy + Copy> Node<P> {
         self.parts.agreement.tables.of(epoch)?.path(prefix)
     }
 
-    // A packet on the tables ends its walk, moves on, or leaves the tables here.
-    fn step_on_tables(&self, packet: Packet, step: StableStep) -> Result<Output, NoMemory>
-        ensures { IfOk result (λ output. (policy : P) (net : Net) (u : ℕ) (past : Chronicle) →
+    // A packet on the tables ends its walk, moves on, or leaves the tables here. It stays in its block.
+    fn step_on_tables(&self, mut packet: Box<Packet>, step: StableStep) -> Output
+        ensures { (policy : P) (net : Net) (u : ℕ) (past : Chronicle) →
             StandsFor policy (P.rules policy) net u self.now past →
-            Hands past (output ∷ []) (on_tables net u past packet step)) }
+            Hands past (result ∷ []) (on_tables net u past packet.value step) }
     {
         let parts = &*self.parts;
         match step {
-            StableStep::Arrived => Ok(Output::Ended {
+            StableStep::Arrived => Output::Ended {
                 id: packet.id,
                 end: End::Delivered,
-            }),
+            },
             StableStep::Next(next) => {
-                forward(parts.alloc, next, packet.moved_to(&parts.topology, next))
+                packet.move_to(&parts.topology, next);
+                Output::Forward { next, packet }
             }
             StableStep::Turn => {
-                let turned = packet.turned(&parts.topology, parts.id);
-                forward(parts.alloc, parts.id, turned)
+                packet.turn(&parts.topology, parts.id);
+                let next = parts.id;
+                Output::Forward { next, packet }
             }
         }
     }
 
     // A packet goes on by the table of its epoch, or leaves the tables here.
-    fn hop_on_tables(&self, packet: Packet, up: &[NodeId]) -> Result<Output, NoMemory>
-        ensures { IfOk result (λ output. (policy : P) (net : Net) (u : ℕ) (past : Chronicle) →
+    fn hop_on_tables(&self, packet: Box<Packet>, up: &[NodeId]) -> Output
+        ensures { (policy : P) (net : Net) (u : ℕ) (past : Chronicle) →
             StandsFor policy (P.rules policy) net u self.now past →
-            Hands past (output ∷ []) (hops_on_tables net u past packet up.now)) }
+            Hands past (result ∷ []) (hops_on_tables net u past packet.value up.now) }
     {
         let path = self.kept_path(packet.epoch, packet.prefix);
         let step = stable_hop(path, up);
@@ -189,14 +191,14 @@ impl<P: Policy + Copy> Node<P> {
     }
 
     // A packet that stands here goes on.
-    fn hop(&self, packet: Packet, up: &[NodeId]) -> Result<Output, NoMemory>
+    fn hop(&self, packet: Box<Packet>, up: &[NodeId]) -> Result<Output, NoMemory>
         ensures { IfOk result (λ output. (policy : P) (net : Net) (u : ℕ) (past : Chronicle) →
-            StandsFor policy (P.rules policy) net u self.now past → packet.prefix < length net.prefixes →
-            Hands past (output ∷ []) (forwards (P.rules policy) net u past packet up.now)) }
+            StandsFor policy (P.rules policy) net u self.now past → packet.value.prefix < length net.prefixes →
+            Hands past (output ∷ []) (forwards (P.rules policy) net u past packet.value up.now)) }
     {
         match packet.mode {
-            Mode::Stable => self.hop_on_tables(packet, up),
-            Mode::Transient => self.hop_off_tables(packet, up),
+            Mode::Stable => Ok(self.hop_on_tables(packet, up)),
+            Mode::Transient => self.hop_off_tables(Box::into_inner(packet), up),
         }
     }
 
@@ -208,7 +210,7 @@ impl<P: Policy + Copy> Node<P> {
     {
         match passing {
             Passing::Enter { id, prefix } => self.inject(id, prefix),
-            Passing::GoOn { packet, up } => self.hop(Box::into_inner(packet), &up),
+            Passing::GoOn { packet, up } => self.hop(packet, &up),
         }
     }
 

@@ -57,11 +57,11 @@ fn is(packet: &Packet, mode: Mode, epoch: u32, budget: u16, visited: u64) -> boo
 // The walk 9@2 2@2 2@t, and what counts as visited at its end.
 fn goes_and_turns(rt: &impl Abort, alloc: Global, net: &Topology, hops: u16, visited: u64) {
     let [two, nine] = [NodeId::new(2), NodeId::new(9)];
-    let packet = stamp(alloc, net, 1, PrefixId::new(0), nine, Some(Epoch::new(2)));
+    let mut packet = stamp(alloc, net, 1, PrefixId::new(0), nine, Some(Epoch::new(2)));
     assert!(rt; is(&packet, Mode::Stable, 2, hops, 0b100));
-    let packet = packet.moved_to(net, two);
+    packet.move_to(net, two);
     assert!(rt; is(&packet, Mode::Stable, 2, hops, 0b101));
-    let packet = packet.turned(net, two);
+    packet.turn(net, two);
     assert!(rt; is(&packet, Mode::Transient, 2, hops, visited));
 }
 
