@@ -28,6 +28,6 @@ pub mod tasks;
 pub mod views;
 pub mod walk_text;
 
-pub use loading::load;
+pub use loading::{load, load_at_exit};
 pub use plain::{load_plain, replay_plain};
 pub use runner::{replay, replay_at_exit};

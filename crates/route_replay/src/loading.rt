@@ -11,6 +11,7 @@ ghost use Rattle.route_replay.specs.Text.{course, stop, task_of};
 use crate::directives::{control_all, drain, hop};
 use crate::ends::RunEnd;
 use crate::load_schedule::{Load, load_of};
+use crate::runner::{AtEnd, end};
 use crate::summary::write_summary;
 use crate::tasks::{Task, task_of};
 use path_vector::{GaoRexford, Policy};
@@ -57,12 +58,13 @@ fn perform_all<P: Policy + Copy>(
     Ok(world)
 }
 
-// Runs the directives, and writes the counts of the run.
+// Runs the directives, writes the counts of the run, and ends the world.
 fn run_and_count<P: Policy + Copy, O: Sink>(
     alloc: Global,
     world: World<P>,
     directives: &[Directive],
     sink: &mut O,
+    at_end: AtEnd,
 ) -> Result<(), RunEnd>
     requires { AllFit world.net directives.now }
     ensures { Runs (O.seen sink.old) (O.seen sink.new)
@@ -70,11 +72,18 @@ fn run_and_count<P: Policy + Copy, O: Sink>(
         (stop (P.rules world.policy) world.net world.events (unnumbered directives.now)) result }
 {
     let world = perform_all(world, directives)?;
-    write_summary(alloc, &world, sink)
+    let written = write_summary(alloc, &world, sink);
+    end(world, at_end);
+    written
 }
 
 // Runs a load in a new world.
-fn run_load<O: Sink>(alloc: Global, load: Load, sink: &mut O) -> Result<(), RunEnd>
+fn run_load<O: Sink>(
+    alloc: Global,
+    load: Load,
+    sink: &mut O,
+    at_end: AtEnd,
+) -> Result<(), RunEnd>
     requires { AllFit load.topology load.directives.items }
     ensures { Runs (O.seen sink.old) (O.seen sink.new)
         (counted gao_rexford load.topology [] (unnumbered load.directives.items))
@@ -90,12 +99,11 @@ fn run_load<O: Sink>(alloc: Global, load: Load, sink: &mut O) -> Result<(), RunE
     let Ok(world) = World::new(alloc, topology, GaoRexford) else {
         return Err(RunEnd::NoMemory);
     };
-    run_and_count(alloc, world, &directives, sink)
+    run_and_count(alloc, world, &directives, sink, at_end)
 }
 
-/// Makes the network of this number and what happens in it, runs that, and writes counts of the run
-/// to the sink. What a user may rely on stands in `specs/Loaded.antt`.
-pub fn load<O: Sink>(alloc: Global, number: u32, sink: &mut O) -> Status
+// Does what `load` does, and ends the world so.
+fn load_ending<O: Sink>(alloc: Global, number: u32, sink: &mut O, at_end: AtEnd) -> Status
     ensures { Loaded number (O.seen sink.old) (O.seen sink.new) result }
 {
     let Ok(made) = load_of(alloc, number) else {
@@ -104,10 +112,25 @@ pub fn load<O: Sink>(alloc: Global, number: u32, sink: &mut O) -> Status
     world_core::laws::a_run_holds_throughout();
     // that a network is valid is said where its nodes are read
     let _nodes = made.topology.nodes();
-    match run_load(alloc, made, sink) {
+    match run_load(alloc, made, sink, at_end) {
         Ok(()) => Status::Done,
         Err(RunEnd::NoMemory) => Status::NoMemory,
         Err(RunEnd::WriteFault) => Status::WriteFault,
         Err(RunEnd::Limit(kind, most)) => Status::Limit(kind, most),
     }
+}
+
+/// Makes the network of this number and what happens in it, runs that, and writes counts of the run
+/// to the sink. What a user may rely on stands in `specs/Loaded.antt`.
+pub fn load<O: Sink>(alloc: Global, number: u32, sink: &mut O) -> Status
+    ensures { Loaded number (O.seen sink.old) (O.seen sink.new) result }
+{
+    load_ending(alloc, number, sink, AtEnd::Free)
+}
+
+/// As [`load`], for a process that ends behind it: a world that ran to its end does not give back its memory.
+pub fn load_at_exit<O: Sink>(alloc: Global, number: u32, sink: &mut O) -> Status
+    ensures { Loaded number (O.seen sink.old) (O.seen sink.new) result }
+{
+    load_ending(alloc, number, sink, AtEnd::Leave)
 }

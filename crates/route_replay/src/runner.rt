@@ -27,8 +27,8 @@ pub enum AtEnd {
     Leave,
 }
 
-// Ends the world.
-fn end<P: Policy + Copy>(world: World<P>, at_end: AtEnd) {
+/// Ends the world.
+pub(crate) fn end<P: Policy + Copy>(world: World<P>, at_end: AtEnd) {
     match at_end {
         AtEnd::Free => drop(world),
         AtEnd::Leave => mem::forget(world),

@@ -11,7 +11,7 @@ use acceptor_journal::Disk;
 use leadership::lead;
 use route_io::{Link, Sink, Source};
 use route_node::{KeptNode, attend, attend_kept};
-use route_replay::{load, replay_at_exit};
+use route_replay::{load_at_exit, replay_at_exit};
 use std::alloc::Global;
 use table_audit::audit;
 use topology::Status;
@@ -35,7 +35,7 @@ fn outcome<I: Source, O: Sink, L: Link, D: Disk>(
     };
     match form {
         Form::Replay => replay_at_exit(alloc, source, sink),
-        Form::Load(number) => load(alloc, number, sink),
+        Form::Load(number) => load_at_exit(alloc, number, sink),
         Form::Node(id, address) => attend(alloc, id, address, source, link),
         Form::KeptNode(id, address, file) => {
             let here = KeptNode { id, address, file };
@@ -54,8 +54,8 @@ fn outcome<I: Source, O: Sink, L: Link, D: Disk>(
 /// it answers, and begins behind the frames that the file has; `audit` reads printed tables from the
 /// source, and writes one line where they are consistent; `lead` reads a script of members from the
 /// source, runs it, and writes its text. The notes get one line where the run ended before its time; a
-/// fault of theirs changes nothing. The process is to end behind this call: a replay leaves the memory of its world to the system
-/// (`replay_at_exit`). What a user may rely on stands in `specs/Headline.antt` and
+/// fault of theirs changes nothing. The process is to end behind this call: a replay and a load leave the memory of their worlds to
+/// the system (`replay_at_exit`, `load_at_exit`). What a user may rely on stands in `specs/Headline.antt` and
 /// `specs/Notes.antt`, and command by command in `route_replay/specs/Replayed.antt` and `Loaded.antt`,
 /// `route_node/specs/Attended.antt` and `AttendedKept.antt`, `table_audit/specs/Audited.antt` and
 /// `leadership/specs/Led.antt`.

@@ -17,4 +17,4 @@ returns g c =
     let world = c.args.world in
     let rules = g.P.Policy.rules world.policy in
     let done = c.in_ok-world.ensures.world in
-    runs_said rules world _ (unnumbered c.args.directives.now) _ _ _ done (rw done.same_policy at c.write_summary.ensures)
+    runs_said rules world _ (unnumbered c.args.directives.now) _ _ _ done (rw done.same_policy at c.write_summary-written.ensures)

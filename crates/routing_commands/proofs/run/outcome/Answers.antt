@@ -8,7 +8,7 @@ pub returns-in-Replay-clause-headline : goal.returns-in-Replay-clause-headline
 returns-in-Replay-clause-headline g c = of_replay _ _ _ _ _ _ _ _ (rw c.in-Replay.is at c.in-Some.ensures.some) c.replay_at_exit.ensures
 
 pub returns-in-Load-clause-headline : goal.returns-in-Load-clause-headline
-returns-in-Load-clause-headline g c = of_load _ _ _ _ _ _ _ _ (rw c.in-Load.is at c.in-Some.ensures.some) c.load.ensures
+returns-in-Load-clause-headline g c = of_load _ _ _ _ _ _ _ _ (rw c.in-Load.is at c.in-Some.ensures.some) c.load_at_exit.ensures
 
 pub returns-in-Node-clause-headline : goal.returns-in-Node-clause-headline
 returns-in-Node-clause-headline g c = of_node _ _ _ _ _ _ _ _ _ _ (rw c.in-Node.is at c.in-Some.ensures.some) c.attend.ensures

@@ -6,7 +6,7 @@ use Rattle.route_replay.specs.LoadNetwork.{load_net}
 use Rattle.route_replay.specs.LoadText.{load_events}
 use Rattle.route_replay.proofs.Suits.{load_fits}
 use Rattle.route_replay.proofs.Written.{Known, ends_done, ends_short, ends_cut, ends_limit, ends_unmade, load_runs}
-use Rattle.route_replay.proofs.loading.load.Goals as goal
+use Rattle.route_replay.proofs.loading.load_ending.Goals as goal
 
 pub returns-in_default : goal.returns-in_default
 returns-in_default g c = ends_unmade c.args.number _
