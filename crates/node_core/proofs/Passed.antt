@@ -95,12 +95,12 @@ module _ (rules : Rules) (net : Net) (u : ℕ) (past : Chronicle) (list : List G
     enter_shown id p is hands = subst (λ x. Hands past list (chronicle_of past (answer rules net carried u past (passing_of x)))) (sym is) hands
 
     -- where it goes on
-    pub on_shown : (box : Box Packet Global) (up : Vec ℕ Global) (packet : Packet) (links : List ℕ) → passing ≡ GoOn box up → packet ≡ box.value → links ≡ up.items → Hands past list (forwards rules net u past packet links)
+    pub on_shown : (box : Box Packet Global) (up : Vec ℕ Global) (links : List ℕ) → passing ≡ GoOn box up → links ≡ up.items → Hands past list (forwards rules net u past box.value links)
         → Hands past list (chronicle_of past (answer rules net carried u past (passing_of passing)))
     unfolding answer
-    on_shown box up packet links is inner same hands =
+    on_shown box up links is same hands =
         subst (λ x. Hands past list (chronicle_of past (answer rules net carried u past (passing_of x)))) (sym is)
-        (subst (λ k. Hands past list (forwards rules net u past k up.items)) inner (subst (λ l. Hands past list (forwards rules net u past packet l)) same hands))
+        (subst (λ l. Hands past list (forwards rules net u past box.value l)) same hands)
 
 -- ---- what the node keeps, and what it may complete
 
