@@ -39,7 +39,7 @@ returns-clause-made g c =
       stands = entered policy rules net u h triggers scope cause (record log { routes = routes; best = kept }) c.keep.new.self
           n said c.in_ok-sent.sent
           mid.was mid.fits mid.lists (subst (λ r. RoutesStandFor policy net u r (k.read ∷ reads h)) (sym (IfOk-at_ok _ is c.keep.ensures.routes)) mid.routes) (IfOk-at_ok _ is c.keep.ensures.node)
-          (ap (λ (s : MarkRows). s.near) (IfOk-at_ok _ is c.keep.ensures.sessions) ∙ (c.tell_all.ensures.near ∙ c.mark.ensures.near)) (IfOk-at_ok _ is c.keep.ensures.next) (IfOk-at_ok _ is c.keep.ensures.kept policy net u h) c.in_ok-sent.ensures whole
+          (ap (λ (s : MarkRows). s.near) (IfOk-at_ok _ is c.keep.ensures.sessions) ∙ (c.tell_all.ensures.near ∙ c.mark.ensures.near)) (IfOk-at_ok _ is c.keep.ensures.next) (IfOk-at_ok _ is c.keep.ensures.kept policy net u h) c.in_ok-sent.ensures.items whole
           (subst (λ (s : MarkRows). ToldTo (making rules net u h k) n s.rows silence said) (sym (IfOk-at_ok _ is c.keep.ensures.sessions)) told)
           (subst (HoldsBack rules net u (k ∷ h)) (sym (IfOk-at_ok _ is c.keep.ensures.held))
           (c.in_ok-hold_back.ensures.kept policy net u h k entering mid.lists (told_all rules net u h k fitting n c.tell_all.new.sessions.rows silence said whole told) mid.was.held))
