@@ -143,52 +143,87 @@ fn connect<R: Net>(net: &R, address: &str) -> io::Result<R::Stream> {
 mod tests {
     use super::TcpLink;
     use crate::link::Link;
-    use crate::outside::Failed;
     use std::io::{Read, Write};
-    use std::net::{Ipv4Addr, SocketAddr, TcpListener};
+    use std::net::{Ipv4Addr, Net, SocketAddr, TcpListener, TcpStream};
+    use std::process::Abort;
     use std::test::Fail;
+
+    // Each of these is a fault.
+    fn fails_before_a_dial<R: Net>(rt: &impl Abort, link: &mut TcpLink<'_, R>) {
+        let mut front = [0u8; 2];
+        assert!(rt; link.read(&mut front).is_err());
+        assert!(rt; link.write(b"a").is_err());
+        assert!(rt; link.dial("no port").is_err());
+        assert!(rt; link.faults == 3);
+    }
+
+    // A link to a listener of this machine, and the listener's end of the connection.
+    fn dialled<R: Net>(rt: &HostRuntime, link: &mut TcpLink<'_, R>) -> Result<TcpStream, Fail> {
+        let here = SocketAddr::from((Ipv4Addr::LOCALHOST, 0));
+        let listener = TcpListener::bind(rt, here)?;
+        let address = format!(in rt.alloc(); "{}", listener.local_addr()?)?;
+        if link.dial(address.as_str()).is_err() {
+            return Err(Fail::from("the listener is not reached"));
+        }
+        let (peer, _) = listener.accept()?;
+        Ok(peer)
+    }
+
+    // What is written over the link, as the peer reads it.
+    fn writes<R: Net>(
+        rt: &impl Abort,
+        link: &mut TcpLink<'_, R>,
+        peer: &mut TcpStream,
+    ) -> Result<(), Fail> {
+        assert!(rt; link.write_all(b"update").is_ok());
+        let mut came = [0u8; 6];
+        peer.read_exact(&mut came)?;
+        assert!(rt; came == *b"update");
+        Ok(())
+    }
+
+    // What the peer wrote, in the pieces of the reads.
+    fn reads<R: Net>(
+        rt: &impl Abort,
+        link: &mut TcpLink<'_, R>,
+        peer: &mut TcpStream,
+    ) -> Result<(), Fail> {
+        peer.write_all(b"marker")?;
+        let mut front = [0u8; 2];
+        assert!(rt; link.read(&mut front) == Ok(2));
+        assert!(rt; front == *b"ma");
+        let mut rest = [0u8; 6];
+        assert!(rt; link.read(&mut rest) == Ok(4));
+        assert!(rt; rest == *b"rker\0\0");
+        Ok(())
+    }
 
     #[test]
     fn reads_and_writes_over_tcp(rt: HostRuntime) -> Result<(), Fail> {
-        let listener = TcpListener::bind(&rt, SocketAddr::from((Ipv4Addr::LOCALHOST, 0)))?;
-        let address = format!(in rt.alloc(); "{}", listener.local_addr()?)?;
         let mut link = TcpLink::new(&rt);
-        let mut front = [0u8; 2];
-        assert_eq!(rt; link.read(&mut front), Err(Failed), "before a dial");
-        assert_eq!(rt; link.write(b"a"), Err(Failed), "before a dial");
-        assert_eq!(rt; link.dial("no port"), Err(Failed));
-        assert_eq!(rt; link.faults, 3);
-        assert_eq!(rt; link.dial(address.as_str()), Ok(()));
-        let (mut peer, _) = listener.accept()?;
-        assert_eq!(rt; link.write_all(b"update"), Ok(()));
-        let mut came = [0u8; 6];
-        peer.read_exact(&mut came)?;
-        assert_eq!(rt; came, *b"update");
-        peer.write_all(b"marker")?;
-        assert_eq!(rt; link.read(&mut front), Ok(2));
-        assert_eq!(rt; front, *b"ma");
-        assert_eq!(rt; link.read(&mut came), Ok(4));
-        assert_eq!(rt; came, *b"rkerte");
+        fails_before_a_dial(&rt, &mut link);
+        let mut peer = dialled(&rt, &mut link)?;
+        writes(&rt, &mut link, &mut peer)?;
+        reads(&rt, &mut link, &mut peer)?;
+        // a peer that has closed
         drop(peer);
-        assert_eq!(rt; link.read(&mut came), Ok(0), "the peer has closed");
-        assert_eq!(rt; link.faults, 3);
+        assert!(rt; link.read(&mut [0u8; 2]) == Ok(0));
+        assert!(rt; link.faults == 3);
         Ok(())
     }
-    // The peer gets the answers even if it had sent bytes that nobody read.
+
+    // The peer gets the answer even if it had sent bytes that nobody read.
     #[test]
     fn a_link_that_is_closed_loses_no_answer(rt: HostRuntime) -> Result<(), Fail> {
-        let listener = TcpListener::bind(&rt, SocketAddr::from((Ipv4Addr::LOCALHOST, 0)))?;
-        let address = format!(in rt.alloc(); "{}", listener.local_addr()?)?;
         let mut link = TcpLink::new(&rt);
-        assert_eq!(rt; link.dial(address.as_str()), Ok(()));
-        let (mut peer, _) = listener.accept()?;
+        let mut peer = dialled(&rt, &mut link)?;
         peer.write_all(&[0u8; 40_000])?;
-        assert_eq!(rt; link.write_all(b"answer"), Ok(()));
+        assert!(rt; link.write_all(b"answer").is_ok());
         link.close();
         let mut came = [0u8; 6];
         peer.read_exact(&mut came)?;
-        assert_eq!(rt; came, *b"answer");
-        assert_eq!(rt; peer.read(&mut came)?, 0);
+        assert!(rt; came == *b"answer");
+        assert!(rt; peer.read(&mut came)? == 0);
         Ok(())
     }
 }
