@@ -78,12 +78,7 @@ fn run_and_count<P: Policy + Copy, O: Sink>(
 }
 
 // Runs a load in a new world.
-fn run_load<O: Sink>(
-    alloc: Global,
-    load: Load,
-    sink: &mut O,
-    at_end: AtEnd,
-) -> Result<(), RunEnd>
+fn run_load<O: Sink>(alloc: Global, load: Load, sink: &mut O, at_end: AtEnd) -> Result<(), RunEnd>
     requires { AllFit load.topology load.directives.items }
     ensures { Runs (O.seen sink.old) (O.seen sink.new)
         (counted gao_rexford load.topology [] (unnumbered load.directives.items))
