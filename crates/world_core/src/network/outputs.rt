@@ -164,6 +164,7 @@ impl<P: Policy + Copy> Network<P> {
     }
 
     // Handles an entry, then the items that go out with it.
+    #[inline(always)]
     fn hand_entry(
         &mut self,
         node: NodeId,
@@ -232,8 +233,9 @@ impl<P: Policy + Copy> Network<P> {
         Ok(())
     }
 
-    /// Handles the outputs of a node, in their order, and returns their effects where the caller wants them.
-    #[inline(always)]
+    /// Handles the outputs of a node, in their order, and returns their effects where the caller wants them. It is a call of its
+    /// own, so that `Network::give` stays small enough to be inlined.
+    #[inline(never)]
     pub fn hand_all(&mut self, node: NodeId, wanted: Wanted) -> Result<Effects, NoMemory>
         ensures kept { OnOk result (KeepsNodes self.old self.new) }
         ensures sending { IfOk result (λ effects. (away : ℕ → Bool) (first past : Chronicle) (counts : Counts) (facts : List Fact) →
