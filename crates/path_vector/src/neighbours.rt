@@ -366,6 +366,7 @@ fn goes_first<P: Policy>(policy: &P, found: &Option<Found>, rank: &Ranked) -> bo
 }
 
 // The neighbour whose candidate ranks first.
+#[inline(always)]
 pub(crate) fn first<'a, P: Policy>(
     policy: &P,
     neighbours: &'a [Neighbour],

@@ -22,7 +22,7 @@ IsSmall t item = (item.triggers ≡ t ∷ []) × (item.session < 2 ^ 16) × (ite
 abbrev pub AreAlike : Trigger → List Sent → Type 0
 AreAlike t items = (length items ≤ 2) × AllByRecursion (IsSmall t) items
 
--- the items are not so for one and the same trigger
+-- there is no one trigger for which every item is small
 abbrev pub AreUnlike : List Sent → Type 0
 AreUnlike items = (t : Trigger) → AllByRecursion (IsSmall t) items → ⊥
 
