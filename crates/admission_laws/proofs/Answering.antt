@@ -35,10 +35,10 @@ use Rattle.chronicle.specs.Inputs as input
 use Rattle.chronicle.specs.Steps.{Step, Idle, Goes, Carried, write, open_session, raise, meet_mark, heard, unless_ready, take_item}
 use Rattle.chronicle.specs.Giving.{unless, out_of_turn, closes, opens, flushes, on_tables, off_tables, sight, hops_on_tables, hops_off_tables, by_mode, injects, forwards, answer}
 use Rattle.chronicle.proofs.Blocks.{log_own, log_open, log_raise, epoch_raise, same_number, opening}
-use Rattle.node_core.specs.ControlFits.{in_order, row_lists_fit, scope_fits}
+use Rattle.message_fitting.specs.ControlFits.{in_order, row_lists_fit, scope_fits}
 use Rattle.node_core.specs.Fits.{item_fits, path_fits, fits}
-use Rattle.node_core.specs.Names.{is_number, list_fits}
-use Rattle.node_core.specs.PacketFits.{packet_fits, are_links}
+use Rattle.message_fitting.specs.Names.{is_number, list_fits}
+use Rattle.message_fitting.specs.PacketFits.{packet_fits, are_links}
 use Rattle.topology.specs.declared.limits.TheConstants.{MOST_EPOCHS, HIGHEST_PREFERENCE}
 use Rattle.admission_laws.proofs.Facts.{cause_fits, AllFacts}
 use Rattle.admission_laws.proofs.Bounds.{below_from, most_is, most_from, Within, Reportable, within_before}

@@ -23,8 +23,8 @@ use Rattle.consolidator.specs.Messages.{Message, Reports, Agrees}
 use Rattle.consolidator.specs.Readings.{is_empty}
 use Rattle.consolidator.specs.Facts as consolidator
 use Rattle.consolidator.specs.Facts.{agreement, fact_in}
-use Rattle.node_core.specs.ControlFits.{ballot_fits, ballots_fit, message_fits, epoch_fits, named_fits, sender_fits, value_fits}
-use Rattle.node_core.specs.Names.{is_number}
+use Rattle.message_fitting.specs.ControlFits.{ballot_fits, ballots_fit, message_fits, epoch_fits, named_fits, sender_fits, value_fits}
+use Rattle.message_fitting.specs.Names.{is_number}
 
 -- ---- facts that fit
 

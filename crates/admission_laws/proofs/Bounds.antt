@@ -17,7 +17,7 @@ use Rattle.trigger_log.specs.Sending.{outbox, news, sent_count, sent_by, sent_of
 use Rattle.trigger_log.specs.Fits.{Fits}
 use Rattle.trigger_log.proofs.Closings.{outbox_held}
 use Rattle.trigger_log.proofs.Numbering.{numbered_from_one}
-use Rattle.node_core.specs.Names.{is_number}
+use Rattle.message_fitting.specs.Names.{is_number}
 use Rattle.node_core.specs.Counted.{is_long, is_long_item, is_long_row}
 use Rattle.node_core.specs.NodeLimits.{marks_of}
 use Rattle.topology.specs.declared.limits.TheConstants.{MOST_ENTRIES, MOST_MARKS, MOST_TRIGGERS, MOST_UPDATES}

@@ -22,8 +22,8 @@ use Rattle.incomplete_closure.specs.declared.values.Value.{Value}
 use Rattle.stable_table.specs.Tables.{all_responded}
 use Rattle.stable_table.specs.Trimming.{complete_after, trimmed_complete, trimmed_backups}
 use Rattle.node_core.specs.Fits.{begins_with, path_fits}
-use Rattle.node_core.specs.Names.{are_nodes, is_number}
-use Rattle.node_core.specs.PacketFits.{carried_fits}
+use Rattle.message_fitting.specs.Names.{are_nodes, is_number}
+use Rattle.message_fitting.specs.PacketFits.{carried_fits}
 use Rattle.topology.specs.declared.limits.TheConstants.{MOST_TRAIL}
 use Rattle.admission_laws.proofs.Facts.{cause_fits, entry_fits}
 use Rattle.admission_laws.proofs.Each.{each_map, each_filter}

@@ -21,8 +21,8 @@ use Rattle.chronicle.specs.Logs.{log_of}
 use Rattle.chronicle.specs.Drops.{dropped, kept_log}
 use Rattle.chronicle.specs.Epochs.{epoch}
 use Rattle.chronicle.specs.Steps.{Carried, sends, write, open_session, markers, take_cut, reporting, raise}
-use Rattle.node_core.specs.ControlFits.{epoch_fits, row_lists_fit, scope_fits, message_fits}
-use Rattle.node_core.specs.Names.{is_number, trigger_fits}
+use Rattle.message_fitting.specs.ControlFits.{epoch_fits, row_lists_fit, scope_fits, message_fits}
+use Rattle.message_fitting.specs.Names.{is_number, trigger_fits}
 use Rattle.topology.specs.declared.limits.TheConstants.{MOST_ENTRIES, MOST_EPOCHS}
 use Rattle.admission_laws.specs.Handing.{is_short}
 use Rattle.admission_laws.proofs.Facts.{cause_fits, entry_fits, AllFacts}

@@ -7,10 +7,10 @@ use Rattle.path_vector.specs.declared.causes.Cause.{Cause}
 use Rattle.path_vector.specs.declared.causes.Cause.TheVariants.{Originate, Withdraw, Recv, Down, Up, Ready, Prefer, Flush}
 use Rattle.trigger_log.specs.Entries.{Entry}
 use Rattle.chronicle.specs.Facts.{Fact, Chronicle, Log, Sent, Took, Fail, Restore, Raise, Start, Mail, Heard, Crash, Restart, Publish, Visit, End}
-use Rattle.node_core.specs.ControlFits.{epoch_fits, ballot_fits, message_fits, row_lists_fit, scope_fits, value_fits}
+use Rattle.message_fitting.specs.ControlFits.{epoch_fits, ballot_fits, message_fits, row_lists_fit, scope_fits, value_fits}
 use Rattle.node_core.specs.Fits.{item_fits, path_fits}
-use Rattle.node_core.specs.Names.{is_number}
-use Rattle.node_core.specs.PacketFits.{packet_fits}
+use Rattle.message_fitting.specs.Names.{is_number}
+use Rattle.message_fitting.specs.PacketFits.{packet_fits}
 use Rattle.admission_laws.specs.Handing.{table_fits, is_short}
 
 -- the neighbour, the session and the path of the cause fit

@@ -10,7 +10,8 @@ use Rattle.path_vector.specs.Rules.{Rules}
 use Rattle.trigger_log.specs.Pending.{pending_rows}
 use Rattle.trigger_log.specs.Sending.{sent_of}
 use Rattle.trigger_log.proofs.Collected.{none_at_first}
-use Rattle.node_core.specs.Counted.{is_long_item, is_long_row, row_marks}
+use Rattle.node_core.specs.Counted.{is_long_item, is_long_row}
+use Rattle.message_fitting.specs.Marks.{row_marks}
 use Rattle.chronicle.specs.Facts.{Fact, Chronicle, Log, Sent, Took, Fail, Restore, Raise, Start, Mail, Heard, Crash, Restart, Publish, Visit, End}
 use Rattle.chronicle.specs.Control.{control}
 use Rattle.chronicle.specs.Epochs.{epoch}
@@ -23,12 +24,12 @@ use Rattle.chronicle.proofs.Publishing.{log_publish, epoch_publish}
 use Rattle.cut_laws.specs.Own.{Own, MayReach}
 use Rattle.cut_laws.proofs.Beside.{same_by_fact}
 use Rattle.cut_laws.proofs.Owning.{own_given, own_same, start_own}
-use Rattle.node_core.specs.ControlFits.{epoch_fits, message_fits, value_fits}
+use Rattle.message_fitting.specs.ControlFits.{epoch_fits, message_fits, value_fits}
 use Rattle.node_core.specs.Fits.{item_fits, fits}
-use Rattle.node_core.specs.Names.{is_number}
+use Rattle.message_fitting.specs.Names.{is_number}
 use Rattle.node_core.specs.NodeLimits.{Reached, has_large_value, has_long_list, has_more_marks, marks_of, node_above, node_limit, or_marks}
 use Rattle.node_core.specs.Outputs.{output_by, outputs}
-use Rattle.node_core.specs.PacketFits.{packet_fits}
+use Rattle.message_fitting.specs.PacketFits.{packet_fits}
 use Rattle.topology.specs.declared.limits.TheConstants.{MOST_EPOCHS, MOST_MARKS}
 use Rattle.node_core.proofs.Admitting.{may_come}
 use Rattle.admission_laws.specs.Handing.{table_fits, is_short, output_fits}

@@ -12,7 +12,7 @@ use Rattle.consolidator.specs.Answers.{refuses_report, refusal_of, posted}
 use Rattle.consolidator.specs.Facts.{Chronicle, Mail, Heard, Crash}
 use Rattle.consolidator.specs.Messages.{Message, Reports, Agrees}
 use Rattle.consolidator.specs.Readings.{put_report, held_by, reports_held, nodes_of, known}
-use Rattle.node_core.specs.ControlFits.{body_fits, epoch_fits, in_order, leads, message_fits, pending_fits, report_fits as whole_fits, report_marks, row_fits, rows_are_few, rows_fit, sessions_fit, waiting_ascends, waiting_fits}
+use Rattle.message_fitting.specs.ControlFits.{body_fits, epoch_fits, in_order, leads, message_fits, pending_fits, report_fits as whole_fits, report_marks, row_fits, rows_are_few, rows_fit, sessions_fit, waiting_ascends, waiting_fits}
 use Rattle.topology.specs.declared.limits.TheConstants.{MOST_MARKS}
 use Rattle.admission_laws.proofs.Values.{report_fits}
 use Rattle.admission_laws.proofs.Ballots.{control_fits}

@@ -21,7 +21,7 @@ use Rattle.trigger_log.specs.Making.{making}
 use Rattle.trigger_log.specs.Pending.{is_pending, pending}
 use Rattle.trigger_log.specs.Sending.{close_sent, held_update, news, next_number, sent_by, sent_from, sent_to, update_of, updates_sent}
 use Rattle.node_core.specs.Fits.{begins_with, path_fits, item_fits}
-use Rattle.node_core.specs.Names.{are_nodes, is_number, list_fits, triggers_fit}
+use Rattle.message_fitting.specs.Names.{are_nodes, is_number, list_fits, triggers_fit}
 use Rattle.node_core.specs.Counted.{is_long, is_long_item}
 use Rattle.topology.specs.declared.limits.TheConstants.{MOST_TRIGGERS}
 use Rattle.admission_laws.proofs.Facts.{cause_fits}

@@ -17,8 +17,8 @@ use Rattle.trigger_log.specs.Pending.{all_pending, is_pending, is_some_trigger, 
 use Rattle.trigger_log.specs.Sending.{Lists, close_list}
 use Rattle.trigger_log.proofs.Gathering.{changed_about}
 use Rattle.trigger_log.proofs.Listed.{all_pending_listed, any_lists, pending_listed}
-use Rattle.node_core.specs.ControlFits.{row_lists_fit}
-use Rattle.node_core.specs.Names.{list_fits, trigger_fits, triggers_fit}
+use Rattle.message_fitting.specs.ControlFits.{row_lists_fit}
+use Rattle.message_fitting.specs.Names.{list_fits, trigger_fits, triggers_fit}
 use Rattle.admission_laws.proofs.Values.{of_list, of_row, trigger_of}
 use Rattle.admission_laws.proofs.Sessions.{AllFit, close_lists, first_fits, rest_fits, triggers_of}
 

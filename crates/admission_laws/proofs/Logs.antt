@@ -15,9 +15,9 @@ use Rattle.chronicle.specs.Logs.{log_of, log_by}
 use Rattle.chronicle.specs.Epochs.{epoch, epoch_by, cut, cut_by}
 use Rattle.chronicle.specs.Drops.{dropped_below}
 use Rattle.chronicle.specs.Publications.{Publication, publications, publications_by, epoch_of, newest, path_in, newest_path, backups_over, backups_in, newest_backups, newest_epoch}
-use Rattle.node_core.specs.ControlFits.{epoch_fits, value_fits}
+use Rattle.message_fitting.specs.ControlFits.{epoch_fits, value_fits}
 use Rattle.node_core.specs.Fits.{path_fits}
-use Rattle.node_core.specs.PacketFits.{carried_fits}
+use Rattle.message_fitting.specs.PacketFits.{carried_fits}
 use Rattle.topology.specs.declared.limits.TheConstants.{MOST_EPOCHS}
 use Rattle.admission_laws.specs.Handing.{table_fits}
 use Rattle.admission_laws.proofs.Facts.{entry_fits, fact_fits, AllFacts}

@@ -20,8 +20,8 @@ use Rattle.backup_routes.specs.Backups.{qualifies, backup_for}
 use Rattle.transient_mode.specs.Sights.{Sight}
 use Rattle.transient_mode.specs.TransientHops.{Hop, Next, Ended, spent, is_new, if_up, back, deflect_by, deflected, next_up, along, follow, route_of, set_out, detoured, take_backup, new_backup, backup_by, by_scheme, end_at, unless_ended, hop_under}
 use Rattle.transient_mode.proofs.Hopping.{found}
-use Rattle.node_core.specs.Names.{are_nodes, is_number}
-use Rattle.node_core.specs.PacketFits.{carried_fits, packet_fits}
+use Rattle.message_fitting.specs.Names.{are_nodes, is_number}
+use Rattle.message_fitting.specs.PacketFits.{carried_fits, packet_fits}
 use Rattle.topology.specs.declared.limits.TheConstants.{MOST_EPOCHS, MOST_TRAIL}
 use Rattle.admission_laws.proofs.Values.{one_of}
 use Rattle.admission_laws.proofs.Bounds.{below_is, below_from, most_is, most_from}

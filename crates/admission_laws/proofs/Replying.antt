@@ -32,7 +32,7 @@ use Rattle.cut_laws.specs.Received.{BringsFrom}
 use Rattle.cut_laws.proofs.Agreeing.{control_mails}
 use Rattle.cut_laws.proofs.Bringing.{brings_simple, brings_inside}
 use Rattle.cut_laws.proofs.Owning.{own_answered}
-use Rattle.node_core.specs.ControlFits.{ballot_fits, epoch_fits, message_fits, value_fits}
+use Rattle.message_fitting.specs.ControlFits.{ballot_fits, epoch_fits, message_fits, value_fits}
 use Rattle.node_core.specs.Fits.{fits}
 use Rattle.node_core.specs.NodeLimits.{first_of_node, is_large, is_too_large, has_large_value, has_long_list, node_above}
 use Rattle.topology.specs.declared.limits.TheConstants.{MOST_EPOCHS, MOST_ENTRIES, MOST_UPDATES}

@@ -22,13 +22,14 @@ use Rattle.incomplete_closure.specs.Reports.{Row}
 use Rattle.consolidator.specs.Messages.{Reports}
 use Rattle.epoch_report.specs.Reporting.{entry_row, entry_rows, session_rows}
 use Rattle.epoch_report.specs.Trimming.{trimmed_report}
-use Rattle.node_core.specs.ControlFits.{epoch_fits, scope_fits, listed_fits, marks_of_row, marks_of_rows, pending_fits, report_fits, report_marks, row_fits, row_lists_fit, items_of, rows_are_few, rows_fit, sessions_fit, message_fits}
-use Rattle.node_core.specs.Counted.{entry_marks, is_long, is_long_item, item_marks, row_marks}
+use Rattle.message_fitting.specs.ControlFits.{epoch_fits, scope_fits, listed_fits, marks_of_row, marks_of_rows, pending_fits, report_fits, report_marks, row_fits, row_lists_fit, items_of, rows_are_few, rows_fit, sessions_fit, message_fits}
+use Rattle.node_core.specs.Counted.{entry_marks, is_long, is_long_item}
+use Rattle.message_fitting.specs.Marks.{item_marks, row_marks}
 use Rattle.node_core.specs.Fits.{path_fits}
-use Rattle.node_core.specs.Names.{is_number, list_fits, triggers_fit}
+use Rattle.message_fitting.specs.Names.{is_number, list_fits, triggers_fit}
 use Rattle.node_core.specs.NodeLimits.{marks_of}
 use Rattle.topology.specs.declared.limits.TheConstants.{MOST_ENTRIES, MOST_MARKS, MOST_TRIGGERS, MOST_UPDATES}
-use Rattle.node_core.proofs.Totals.{total_append}
+use Rattle.message_fitting.proofs.Totals.{total_append}
 use Rattle.admission_laws.specs.Handing.{is_short}
 use Rattle.admission_laws.proofs.Each.{each_append, each_flat, among_has, has_among, none_flat, none_last}
 use Rattle.admission_laws.proofs.Items.{news_fit, update_fits}

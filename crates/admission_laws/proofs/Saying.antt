@@ -18,7 +18,7 @@ use Rattle.consolidator.specs.Answers.{is_decision, refused, refusal_of, of_epoc
 use Rattle.consolidator.specs.Facts.{Chronicle, agreement}
 use Rattle.consolidator.specs.Messages.{Message, Reports, Agrees}
 use Rattle.consolidator.specs.Readings.{reports_held, fresh}
-use Rattle.node_core.specs.ControlFits.{ballot_fits, ballots_fit, epoch_fits, message_fits, named_fits, sender_fits, value_fits}
+use Rattle.message_fitting.specs.ControlFits.{ballot_fits, ballots_fit, epoch_fits, message_fits, named_fits, sender_fits, value_fits}
 use Rattle.node_core.specs.NodeLimits.{proposes_more, is_large}
 use Rattle.topology.specs.declared.limits.TheConstants.{MOST_TRIGGERS}
 use Rattle.admission_laws.specs.Handing.{is_short}

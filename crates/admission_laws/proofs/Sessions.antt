@@ -24,8 +24,8 @@ use Rattle.trigger_log.proofs.Fresh.{ever_above}
 use Rattle.trigger_log.proofs.Holding.{fits_up}
 use Rattle.incomplete_closure.specs.Reports.{SessionRow}
 use Rattle.epoch_report.specs.Reporting.{session_row, session_rows}
-use Rattle.node_core.specs.ControlFits.{leads, in_order, row_lists_fit, sooner, scope_fits, session_fits, sessions_ascend, sessions_fit, down_fits}
-use Rattle.node_core.specs.Names.{is_number, triggers_fit}
+use Rattle.message_fitting.specs.ControlFits.{leads, in_order, row_lists_fit, sooner, scope_fits, session_fits, sessions_ascend, sessions_fit, down_fits}
+use Rattle.message_fitting.specs.Names.{is_number, triggers_fit}
 use Rattle.topology.specs.declared.limits.TheConstants.{MOST_ENTRIES, MOST_SESSIONS, MOST_TRIGGERS}
 use Rattle.admission_laws.proofs.Facts.{cause_fits, entry_fits}
 use Rattle.admission_laws.proofs.Each.{each_append, each_map, each_flat, among_has, among_append}

@@ -19,7 +19,7 @@ use Rattle.incomplete_closure.specs.declared.values.Value.{Value}
 use Rattle.stable_table.specs.Tables.{all_responded, answered}
 use Rattle.stable_table.specs.Trimming.{complete_after, trimmed_complete, trimmed_path, trimmed_table}
 use Rattle.node_core.specs.Fits.{begins_with, path_fits}
-use Rattle.node_core.specs.Names.{are_nodes}
+use Rattle.message_fitting.specs.Names.{are_nodes}
 use Rattle.admission_laws.specs.Handing.{table_fits}
 
 -- ---- paths

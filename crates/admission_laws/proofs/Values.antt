@@ -16,8 +16,8 @@ use Rattle.incomplete_closure.specs.Values.{IsValue}
 use Rattle.incomplete_closure.specs.Collecting.{value_of}
 use Rattle.incomplete_closure.proofs.Told.{is_value}
 use Rattle.consolidator.specs.Readings.{nodes_of}
-use Rattle.node_core.specs.ControlFits.{all_fit, in_order, incomplete_fits, listed_fits, nodes_fit, row_fits, row_lists_fit, scope_fits, value_fits, waiting_fits}
-use Rattle.node_core.specs.Names.{are_nodes, is_number, list_fits, trigger_fits, triggers_fit}
+use Rattle.message_fitting.specs.ControlFits.{all_fit, in_order, incomplete_fits, listed_fits, nodes_fit, row_fits, row_lists_fit, scope_fits, value_fits, waiting_fits}
+use Rattle.message_fitting.specs.Names.{are_nodes, is_number, list_fits, trigger_fits, triggers_fit}
 use Rattle.topology.specs.declared.limits.TheConstants.{MOST_TRIGGERS}
 use Rattle.admission_laws.proofs.Each.{among_append, among_filter, among_flat, among_made}
 

@@ -17,9 +17,9 @@ use Rattle.path_vector.specs.History.{held}
 use Rattle.trigger_log.specs.Entries.{Entry, reads}
 use Rattle.trigger_log.specs.Fits.{Fits}
 use Rattle.trigger_log.specs.Pending.{is_pending, pending, pending_row, pending_rows, pending_to}
-use Rattle.node_core.specs.ControlFits.{in_order, pending_fits, waiting_ascends, waiting_fits, waits_sooner}
+use Rattle.message_fitting.specs.ControlFits.{in_order, pending_fits, waiting_ascends, waiting_fits, waits_sooner}
 use Rattle.node_core.specs.Counted.{is_long, is_long_row}
-use Rattle.node_core.specs.Names.{is_number, list_fits, triggers_fit}
+use Rattle.message_fitting.specs.Names.{is_number, list_fits, triggers_fit}
 use Rattle.topology.specs.declared.limits.TheConstants.{MOST_PENDING, MOST_TRIGGERS}
 use Rattle.admission_laws.proofs.Each.{among_append, among_filter, among_has, among_made, among_range, each_flat, each_map, none_flat, none_made, passing_filter}
 use Rattle.admission_laws.proofs.Bounds.{below_is, kept_few, most_is, not_long}

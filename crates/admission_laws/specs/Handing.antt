@@ -4,11 +4,11 @@ use Rattle.std.specs.List.{list_all}
 use Rattle.topology.specs.Lists.{has}
 use Rattle.topology.specs.Net.{Net, neighbours}
 use Rattle.consolidator.specs.Messages.{Message, Reports, Agrees}
-use Rattle.node_core.specs.ControlFits.{epoch_fits, message_fits, value_fits}
+use Rattle.message_fitting.specs.ControlFits.{epoch_fits, message_fits, value_fits}
 use Rattle.node_core.specs.Fits.{item_fits, path_fits}
-use Rattle.node_core.specs.Names.{is_number}
+use Rattle.message_fitting.specs.Names.{is_number}
 use Rattle.node_core.specs.Outputs.{Output, Logged, Cut, Send, Mail, Published, Forward, Ended}
-use Rattle.node_core.specs.PacketFits.{packet_fits}
+use Rattle.message_fitting.specs.PacketFits.{packet_fits}
 
 -- for each prefix of the network a path of u, or none
 abbrev pub table_fits : Net → ℕ → List (Option (List ℕ)) → Bool

@@ -1,8 +1,7 @@
 -- What a node admits may come to it.
-use Rattle.std.proofs.Common.{ℕ, ◌^◌, ◌<◌, Bool, true, false, ◌&&◌, ◌==◌, nat_lt, nat_le, Option, Some, None, List, [], ◌∷◌, ◌≡◌, ◌≢◌, refl, sym, ◌∙◌, ap, subst, arith, length}
+use Rattle.std.proofs.Common.{ℕ, ◌^◌, ◌<◌, Bool, true, false, ◌&&◌, nat_lt, nat_le, Option, Some, None, List, [], ◌∷◌, ◌≡◌, ◌≢◌, refl, sym, ◌∙◌, ap, subst, arith, length}
 use Rattle.std.proofs.Common.{Box, Global, Vec}
 use Rattle.std.specs.Prelude.{IfSome}
-use Rattle.std.specs.List.{list_all}
 use Rattle.std.proofs.lemmas.Bool.Decides.{nat_tests}
 use Rattle.topology.specs.declared.names.Trigger.{Trigger}
 use Rattle.topology.specs.Lists.{has}
@@ -23,9 +22,9 @@ use Rattle.node_core.specs.declared.inputs.Input.TheVariants as given
 use Rattle.topology.specs.declared.limits.TheConstants.{MOST_TRIGGERS}
 use Rattle.node_core.specs.Inputs.{input_of}
 use Rattle.node_core.specs.Coming.{MayCome}
-use Rattle.node_core.specs.ControlFits.{epoch_fits, message_fits}
-use Rattle.node_core.specs.Names.{are_nodes, is_number, list_fits, trigger_fits, triggers_fit}
-use Rattle.node_core.specs.PacketFits.{carried_fits, packet_fits, are_links}
+use Rattle.message_fitting.specs.ControlFits.{epoch_fits, message_fits}
+use Rattle.message_fitting.specs.Names.{are_nodes, is_number, list_fits, triggers_fit}
+use Rattle.message_fitting.specs.PacketFits.{carried_fits, packet_fits, are_links}
 use Rattle.node_core.specs.Fits.{begins_with, path_fits, item_fits, fits}
 
 below : (m n : ℕ) → nat_lt m n ≡ true → m < n
@@ -55,16 +54,6 @@ route net v (Some path) e =
       };
       inside = inside net path (and_right (differ path) (are_nodes net path) rest);
     }
-
--- where there are some, each fits where all do
-pub some_fit : (net : Net) (ts : List Trigger) → (length ts == 0) ≡ false → list_all (trigger_fits net) ts ≡ triggers_fit net ts
-some_fit net [] some = absurd (cc some)
-some_fit net (t ∷ []) some = and_true (trigger_fits net t)
-  where
-    and_true : (b : Bool) → (b && true) ≡ b
-    and_true true = refl
-    and_true false = refl
-some_fit net (t ∷ s ∷ ts) some = let more : (length (s ∷ ts) == 0) ≡ false = grind (arith, nat_tests) in ap (λ b. trigger_fits net t && b) (some_fit net (s ∷ ts) more)
 
 some_listed : (net : Net) (ts : List Trigger) → triggers_fit net ts ≡ true → ts ≢ []
 some_listed net [] e = absurd (cc e)

@@ -15,7 +15,8 @@ use Rattle.trigger_log.specs.Entries.{Entry, Update, inbox, received_by}
 use Rattle.topology.specs.declared.items.Pending.{Pending}
 use Rattle.trigger_log.specs.Pending.{pending_rows}
 use Rattle.trigger_log.specs.Sending.{sent_of}
-use Rattle.node_core.specs.Counted.{entry_marks, is_long_item, is_long_row, item_marks, row_marks}
+use Rattle.node_core.specs.Counted.{entry_marks, is_long_item, is_long_row}
+use Rattle.message_fitting.specs.Marks.{item_marks, row_marks}
 use Rattle.chronicle.specs.Facts.{Chronicle}
 use Rattle.chronicle.specs.Logs.{log_of}
 use Rattle.chronicle.specs.Epochs.{epoch}

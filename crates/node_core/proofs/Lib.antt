@@ -1,4 +1,3 @@
-pub mod Totals
 pub mod Counting
 pub mod Answering
 pub mod Handing
@@ -20,7 +19,6 @@ pub mod Sharing
 pub mod Asking
 pub mod Proposing
 pub mod Others
-pub mod Ordering
 pub mod Sighting
 pub mod Passed
 pub mod Unboxed

@@ -4,9 +4,10 @@ use Rattle.std.specs.List.{list_any}
 use Rattle.topology.specs.declared.items.Sent.{Sent}
 use Rattle.node_core.specs.declared.counts.Counts.{Counts}
 use Rattle.topology.specs.SentLists.{marks_of}
-use Rattle.node_core.specs.Counted.{is_long_item, item_marks}
+use Rattle.node_core.specs.Counted.{is_long_item}
+use Rattle.message_fitting.specs.Marks.{item_marks}
 use Rattle.node_core.specs.Counting.{Adds, AreCounts}
-use Rattle.node_core.proofs.Totals.{total_append}
+use Rattle.message_fitting.proofs.Totals.{total_append}
 use Rattle.std.proofs.lemmas.List.{length-append}
 use Rattle.topology.specs.Net.{Net}
 use Rattle.path_vector.specs.Rules.{Rules}
@@ -14,6 +15,7 @@ use Rattle.trigger_log.specs.declared.entries.Entry.{Entry as Shown}
 use Rattle.trigger_log.specs.Entries.{Entry}
 use Rattle.trigger_log.specs.Sending.{sent_by, sent_of}
 use Rattle.trigger_log.specs.Entered.{Entered, all_entered, Shows}
+use Rattle.message_fitting.proofs.ListedMarks.{same_marks}
 
 -- what is there is one thing
 same_some : (x y : Entered) → Some x ≡ Some y → x ≡ y
@@ -78,11 +80,6 @@ counted_more rules net u k h old mid new shown n was shows adds updates many mar
       omega (arith, marks, listed, added, so_far, both);
   long = long ∙ (adds.long ∙ (ap₂ (λ a (items : List Sent). a || list_any is_long_item items) was.long shows.sent ∙ sym (any_append (sent_of rules net u h) (sent_by rules net u h k))));
 }
-
--- the triggers that items list, by the count that the items tell
-pub same_marks : (items : List Sent) → marks_of items ≡ item_marks items
-same_marks [] = refl
-same_marks (item ∷ items) = ap (λ n. length item.triggers + n) (same_marks items)
 
 -- items more
 pub adds_items : (items : List Sent) (old new : Counts) (count marks : ℕ) (long : Bool) → count ≡ length items → marks ≡ marks_of items → long ≡ list_any is_long_item items

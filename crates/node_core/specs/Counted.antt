@@ -1,10 +1,11 @@
 -- Counts of the triggers in the lists of a node, and the test for a list that is too long.
-use Rattle.std.specs.Prelude.{ℕ, ◌+◌, Bool, nat_lt, List, [], ◌∷◌, length}
+use Rattle.std.specs.Prelude.{ℕ, Bool, nat_lt, List, length}
 use Rattle.topology.specs.declared.items.Pending.{Pending}
 use Rattle.topology.specs.declared.items.Sent.{Sent}
 use Rattle.topology.specs.declared.names.Trigger.{Trigger}
 use Rattle.trigger_log.specs.Entries.{Entry}
 use Rattle.topology.specs.declared.limits.TheConstants.{MOST_TRIGGERS}
+use Rattle.message_fitting.specs.Marks.{total}
 
 -- there are more triggers than a list may have
 abbrev pub is_long : List Trigger → Bool
@@ -18,19 +19,6 @@ is_long_item item = is_long item.triggers
 abbrev pub is_long_row : Pending → Bool
 is_long_row row = is_long row.triggers
 
--- the sum of a number of each
-abbrev pub total : {A : Type 0} → (A → ℕ) → List A → ℕ
-total count [] = 0
-total count (x ∷ xs) = count x + total count xs
-
 -- the triggers that entries list, counted once for each list
 abbrev pub entry_marks : List Entry → ℕ
 entry_marks h = total (λ (k : Entry). length k.triggers) h
-
--- the triggers that items list
-abbrev pub item_marks : List Sent → ℕ
-item_marks items = total (λ (item : Sent). length item.triggers) items
-
--- the triggers that rows of updates held back list
-abbrev pub row_marks : List Pending → ℕ
-row_marks rows = total (λ (row : Pending). length row.triggers) rows

@@ -7,7 +7,8 @@ use Rattle.path_vector.specs.Rules.{Rules}
 use Rattle.trigger_log.specs.Entries.{Entry}
 use Rattle.trigger_log.specs.Sending.{sent_of}
 use Rattle.node_core.specs.declared.counts.Counts.{Counts}
-use Rattle.node_core.specs.Counted.{entry_marks, is_long_item, item_marks}
+use Rattle.node_core.specs.Counted.{entry_marks, is_long_item}
+use Rattle.message_fitting.specs.Marks.{item_marks}
 
 -- the counts are those of these entries of u: the count of their items, the count of the triggers that entries and
 -- items list, and whether an item lists more triggers than a list may have

@@ -5,9 +5,9 @@ use Rattle.topology.specs.Paths.{differ}
 use Rattle.topology.specs.Net.{Net, neighbours}
 use Rattle.trigger_log.specs.Going.{Item, News, Marker, Hello}
 use Rattle.chronicle.specs.Inputs.{Input, Originate, Withdraw, Prefer, Arrive, Notice, OpenSession, Flush, Snap, Propose, Control, Inject, Hop}
-use Rattle.node_core.specs.ControlFits.{epoch_fits, message_fits}
-use Rattle.node_core.specs.Names.{are_nodes, is_number, list_fits}
-use Rattle.node_core.specs.PacketFits.{packet_fits, are_links}
+use Rattle.message_fitting.specs.ControlFits.{epoch_fits, message_fits}
+use Rattle.message_fitting.specs.Names.{are_nodes, is_number, list_fits}
+use Rattle.message_fitting.specs.PacketFits.{packet_fits, are_links}
 use Rattle.topology.specs.declared.limits.TheConstants.{MOST_EPOCHS, HIGHEST_PREFERENCE}
 
 -- the first node of the list is v

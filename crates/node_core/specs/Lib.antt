@@ -1,10 +1,7 @@
 pub mod Inputs
 pub mod Coming
-pub mod Names
 pub mod Counted
 pub mod Counting
-pub mod ControlFits
-pub mod PacketFits
 pub mod Fits
 pub mod Outputs
 pub mod Alike

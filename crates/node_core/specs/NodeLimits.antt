@@ -20,7 +20,8 @@ use Rattle.chronicle.specs.Logs.{log_of}
 use Rattle.chronicle.specs.Epochs.{epoch}
 use Rattle.chronicle.specs.Steps.{Step, Idle, Goes}
 use Rattle.topology.specs.declared.limits.TheConstants.{MOST_EPOCHS, MOST_TRIGGERS, MOST_ENTRIES, MOST_UPDATES, MOST_MARKS}
-use Rattle.node_core.specs.Counted.{entry_marks, is_long_item, is_long_row, item_marks, row_marks}
+use Rattle.node_core.specs.Counted.{entry_marks, is_long_item, is_long_row}
+use Rattle.message_fitting.specs.Marks.{item_marks, row_marks}
 use Rattle.node_core.specs.declared.outputs.Stop.{Stop}
 use Rattle.node_core.specs.declared.outputs.Stop.TheVariants as stop
 

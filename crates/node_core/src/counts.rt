@@ -1,13 +1,15 @@
 //! Counts of the items and triggers in the lists of a node.
-ghost use Rattle.std.specs.Prelude.{ℕ, ◌+◌, ◌<◌, ◌≡◌, [], ◌∷◌, nat_lt, List, IfNone, IfOk, IfSome, OnOk};
+ghost use Rattle.std.specs.Prelude.{ℕ, ◌+◌, ◌<◌, ◌≡◌, [], ◌∷◌, nat_lt, List, IfOk, OnOk};
 ghost use Rattle.std.specs.List.{list_any};
 ghost use Rattle.topology.specs.Net.{Net};
 ghost use Rattle.path_vector.specs.Rules.{Rules};
 ghost use Rattle.trigger_log.specs.Entries.{Entry as Logged};
 ghost use Rattle.trigger_log.specs.Entered.{Shows};
-ghost use Rattle.node_core.specs.Counted.{is_long, is_long_row, row_marks};
+ghost use Rattle.node_core.specs.Counted.{is_long, is_long_row};
+ghost use Rattle.message_fitting.specs.Marks.{row_marks};
 ghost use Rattle.node_core.specs.Counting.{Adds, AreCounts};
 
+use message_fitting::marks::{less, less_pending};
 use topology::limits::{MOST_MARKS, MOST_TRIGGERS};
 use topology::{NoMemory, Pending, SentItems, Triggers};
 use trigger_log::Entry;
@@ -36,32 +38,6 @@ pub(crate) fn any_long(rows: &[Pending]) -> bool
     ensures { result ≡ list_any is_long_row rows.now }
 {
     rows.iter().any(|row| is_long(&row.triggers))
-}
-
-/// The first number less the second. None where the second is higher.
-pub(crate) fn less(number: usize, count: usize) -> Option<usize>
-    ensures some { IfSome result (λ left. left + count ≡ number) }
-    ensures none { IfNone result (number < count) }
-{
-    if count > number {
-        return None;
-    }
-    Some(number - count)
-}
-
-/// The number less the count of triggers that the rows of updates held back list. None where the rows list more.
-pub(crate) fn less_pending(number: usize, rows: &[Pending]) -> Option<usize>
-    ensures some { IfSome result (λ left. left + row_marks rows.now ≡ number) }
-    ensures none { IfNone result (number < row_marks rows.now) }
-{
-    let mut left = number;
-    for row in rows {
-        let Some(rest) = less(left, row.triggers.len()) else {
-            return None;
-        };
-        left = rest;
-    }
-    Some(left)
 }
 
 /// Whether this many triggers, with those that the rows of updates held back list, are more than a node may have.

@@ -1,45 +1,22 @@
 //! Which inputs a node admits.
 ghost use Rattle.std.specs.Prelude.{◌≡◌, ℕ};
-ghost use Rattle.std.specs.List.{list_all};
 ghost use Rattle.topology.specs.Lists.{has};
 ghost use Rattle.topology.specs.Net.{Net, neighbours};
 ghost use Rattle.trigger_log.specs.Going.{item_of};
 ghost use Rattle.chronicle.specs.Facts.{Chronicle};
 ghost use Rattle.node_core.specs.Fits.{fits, item_fits, path_fits};
 ghost use Rattle.node_core.specs.Inputs.{input_of};
-ghost use Rattle.node_core.specs.Names.{are_nodes, is_number, list_fits, trigger_fits, triggers_fit};
+ghost use Rattle.message_fitting.specs.Names.{are_nodes, is_number, list_fits};
 ghost use Rattle.node_core.specs.Standing.{StandsFor};
 
-use crate::control_fitting::{epoch_fits, message_fits};
 use crate::inputs::Input;
 use crate::node::Node;
-use crate::packet_fitting::{are_links, packet_fits};
+use message_fitting::control_fitting::{epoch_fits, message_fits};
+use message_fitting::names::{are_nodes, is_among, is_number, list_fits};
+use message_fitting::packet_fitting::{are_links, packet_fits};
 use path_vector::Policy;
-use topology::limits::{HIGHEST_PREFERENCE, MOST_EPOCHS, MOST_TRIGGERS};
-use topology::{Item, NodeId, Path, Topology, Trigger};
-
-pub(crate) fn is_among(nodes: &[NodeId], node: NodeId) -> bool
-    ensures { result ≡ has nodes.now node }
-{
-    nodes.contains(&node)
-}
-
-// Whether it is a node of the network.
-pub(crate) fn is_node(topology: &Topology, node: NodeId) -> bool
-    ensures { result ≡ has topology.now.nodes node }
-{
-    topology.rank_of(node).is_some()
-}
-
-// Whether all of them are nodes of the network.
-pub(crate) fn are_nodes(topology: &Topology, nodes: &[NodeId]) -> bool
-    ensures { result ≡ are_nodes topology.now nodes.now }
-{
-    match nodes {
-        [] => true,
-        [first, rest @ ..] => is_node(topology, *first) && are_nodes(topology, rest),
-    }
-}
+use topology::limits::{HIGHEST_PREFERENCE, MOST_EPOCHS};
+use topology::{Item, NodeId, Path, Topology};
 
 // Whether a path begins with its sender and stays in the network.
 fn path_fits(topology: &Topology, from: NodeId, path: &Option<Path>) -> bool
@@ -49,42 +26,6 @@ fn path_fits(topology: &Topology, from: NodeId, path: &Option<Path>) -> bool
         return true;
     };
     path.nodes().first() == Some(&from) && are_nodes(topology, path.nodes())
-}
-
-// Whether the number is counted from 1.
-pub(crate) fn is_number(number: u32) -> bool
-    ensures { result ≡ is_number number }
-{
-    number >= 1
-}
-
-pub(crate) fn trigger_fits(topology: &Topology, trigger: &Trigger) -> bool
-    ensures { result ≡ trigger_fits topology.now trigger.now }
-{
-    is_node(topology, trigger.node) && is_number(trigger.count)
-}
-
-// Whether each is a trigger of the network.
-pub(crate) fn are_triggers(topology: &Topology, triggers: &[Trigger]) -> bool
-    ensures { result ≡ list_all (trigger_fits topology.now) triggers.now }
-{
-    triggers
-        .iter()
-        .all(|trigger| trigger_fits(topology, trigger))
-}
-
-// Whether the list has a trigger, and each is of the network.
-fn triggers_fit(topology: &Topology, triggers: &[Trigger]) -> bool
-    ensures { result ≡ triggers_fit topology.now triggers.now }
-{
-    !triggers.is_empty() && are_triggers(topology, triggers)
-}
-
-// Whether the list has a trigger, each is of the network, and they are no more than a list may have.
-pub(crate) fn list_fits(topology: &Topology, triggers: &[Trigger]) -> bool
-    ensures { result ≡ list_fits topology.now triggers.now }
-{
-    triggers.len() <= MOST_TRIGGERS as usize && triggers_fit(topology, triggers)
 }
 
 // Whether an item of a neighbour has names of the network, and numbers in their ranges.

@@ -3,7 +3,6 @@
 
 pub mod agreement;
 pub mod answers;
-mod control_fitting;
 pub mod counts;
 mod duties;
 mod fitting;
@@ -13,7 +12,6 @@ pub mod limits;
 mod marks;
 pub mod node;
 pub mod outputs;
-mod packet_fitting;
 mod packet_hops;
 pub mod parts;
 mod publishing;

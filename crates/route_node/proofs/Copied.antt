@@ -17,7 +17,7 @@ use Rattle.incomplete_closure.specs.declared.session_rows.SessionRow.{SessionRow
 use Rattle.incomplete_closure.specs.declared.reports.Report.{Report as TheReport}
 use Rattle.incomplete_closure.specs.Seen.{row_seen, session_seen, report_seen}
 use Rattle.node_core.specs.Fits.{begins_with, path_fits}
-use Rattle.node_core.specs.Names.{are_nodes}
+use Rattle.message_fitting.specs.Names.{are_nodes}
 use Rattle.admission_laws.specs.Handing.{table_fits}
 use Rattle.route_node.specs.Frames.{first_of, list_told, item_told, row_told, session_told, pending_told, report_told}
 

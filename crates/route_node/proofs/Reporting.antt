@@ -17,9 +17,9 @@ use Rattle.topology.specs.Net.{Net, IsValid}
 use Rattle.topology.proofs.Tests.{and_left, and_right, and_both, same_is}
 use Rattle.topology.proofs.Unions.{of_union, union_ascends, union_none}
 use Rattle.incomplete_closure.specs.Reports.{Row, Report}
-use Rattle.node_core.specs.ControlFits.{epoch_fits, in_order, leads, listed_fits, row_lists_fit, scope_fits, row_fits, items_of, rows_are_few, rows_fit, sooner, session_fits, sessions_ascend, sessions_fit, waiting_fits, waits_sooner, waiting_ascends, pending_fits, marks_of_row, marks_of_rows, report_marks, report_fits}
-use Rattle.node_core.specs.Counted.{item_marks, row_marks}
-use Rattle.node_core.specs.Names.{is_number, list_fits, trigger_fits, triggers_fit}
+use Rattle.message_fitting.specs.ControlFits.{epoch_fits, in_order, leads, listed_fits, row_lists_fit, scope_fits, row_fits, items_of, rows_are_few, rows_fit, sooner, session_fits, sessions_ascend, sessions_fit, waiting_fits, waits_sooner, waiting_ascends, pending_fits, marks_of_row, marks_of_rows, report_marks, report_fits}
+use Rattle.message_fitting.specs.Marks.{item_marks, row_marks}
+use Rattle.message_fitting.specs.Names.{is_number, list_fits, trigger_fits, triggers_fit}
 use Rattle.wire_frames.specs.Formats.{many_fit, listed, reached}
 use Rattle.wire_frames.specs.Fields.{node, prefix, positive, epoch, many, trigger, scope, is_one, is_alone, one_trigger, no_trigger, rising_triggers, more_items, sent, items, row, rows, above, session_rows, report}
 use Rattle.wire_frames.specs.Listing as listing

@@ -17,10 +17,10 @@ use Rattle.incomplete_closure.specs.declared.values.Value.{Value}
 use Rattle.epoch_packet.specs.declared.packets.Packet.{Packet}
 use Rattle.epoch_packet.specs.declared.walks.Mode.{Mode}
 use Rattle.epoch_packet.specs.declared.walks.Mode.TheVariants.{Stable, Transient}
-use Rattle.node_core.specs.ControlFits.{epoch_fits, in_order, leads, nodes_fit, all_fit, incomplete_fits, value_fits, ballot_fits, named_fits, down_fits, session_fits, sooner}
+use Rattle.message_fitting.specs.ControlFits.{epoch_fits, in_order, leads, nodes_fit, all_fit, incomplete_fits, value_fits, ballot_fits, named_fits, down_fits, session_fits, sooner}
 use Rattle.node_core.specs.Fits.{begins_with, path_fits}
-use Rattle.node_core.specs.Names.{are_nodes, is_number, trigger_fits, triggers_fit}
-use Rattle.node_core.specs.PacketFits.{carried_fits, packet_fits}
+use Rattle.message_fitting.specs.Names.{are_nodes, is_number, trigger_fits, triggers_fit}
+use Rattle.message_fitting.specs.PacketFits.{carried_fits, packet_fits}
 use Rattle.wire_frames.specs.Formats.{many_fit, optional}
 use Rattle.wire_frames.specs.Fields.{node, prefix, positive, epoch, epoch_or_none, any16, any32, any64, few, many, trigger, ballot, in_any_order, rising, different, nodes, path, paths, paths_in_order, rising_triggers, no_trigger, value, named, above, session_row, session_rows, packet, flag, mode}
 use Rattle.topology.proofs.Few.{no_more}

@@ -19,11 +19,11 @@ use Rattle.epoch_packet.specs.declared.walks.End.{End as Ending}
 use Rattle.epoch_packet.specs.declared.walks.End.TheVariants.{Delivered, Expired, Stuck}
 use Rattle.paxos_core.specs.Facts.{Message as Ballots, Prepare, Promise, Accept, Accepted, Decision}
 use Rattle.consolidator.specs.Messages.{Message, Reports, Agrees}
-use Rattle.node_core.specs.ControlFits.{epoch_fits, sender_fits, ballot_fits, named_fits, value_fits, items_of, marks_of_rows, report_fits, ballots_fit, body_fits, message_fits}
+use Rattle.message_fitting.specs.ControlFits.{epoch_fits, sender_fits, ballot_fits, named_fits, value_fits, items_of, marks_of_rows, report_fits, ballots_fit, body_fits, message_fits}
 use Rattle.node_core.specs.Fits.{item_fits, path_fits}
-use Rattle.node_core.specs.Names.{is_number, list_fits}
-use Rattle.node_core.specs.Counted.{item_marks, row_marks}
-use Rattle.node_core.specs.PacketFits.{packet_fits}
+use Rattle.message_fitting.specs.Names.{is_number, list_fits}
+use Rattle.message_fitting.specs.Marks.{item_marks, row_marks}
+use Rattle.message_fitting.specs.PacketFits.{packet_fits}
 use Rattle.node_core.specs.Outputs.{Output, Logged, Cut, Send, Mail, Published, Forward, Ended, outputs}
 use Rattle.admission_laws.specs.Handing.{is_short, table_fits, output_fits}
 use Rattle.admission_laws.proofs.Sessions.{neighbour_is}

@@ -6,7 +6,7 @@ use Rattle.std.proofs.lemmas.List.{take_more, take_all}
 use Rattle.std.proofs.lemmas.List.Sums.{sum_by_push}
 use Rattle.std.proofs.lemmas.Option.{slice_get-get_or, slice_get_within}
 use Rattle.std.proofs.lemmas.Bool.Decides.{nat_tests}
-use Rattle.route_replay.proofs.Drafts.{range_more}
+use Rattle.load_plan.proofs.Drafts.{range_more}
 
 -- what is read as none is none
 none_read : {A B : Type 0} (f : A → B) (o : Option A) → option_map f o ≡ None → o ≡ None

@@ -6,7 +6,8 @@ use Rattle.topology.specs.Net.{Net, neighbours}
 use Rattle.chronicle.specs.Facts.{Chronicle}
 use Rattle.chronicle.specs.Epochs.{cut}
 use Rattle.chronicle.specs.Recordings.{Recording, recording}
-use Rattle.route_replay.specs.CutText.{cut_line, cut_lines, recorded_text}
+use Rattle.view_words.specs.Cuts.{cut_line}
+use Rattle.route_replay.specs.CutText.{cut_lines, recorded_text}
 
 module _ (net : Net) (past : Chronicle) (e u : ℕ) where
   -- the first is that of the cut

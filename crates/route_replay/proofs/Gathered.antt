@@ -1,6 +1,6 @@
 -- Text that is gathered piece by piece.
 use Rattle.std.proofs.Common.{◌≡◌, ℕ, suc, ◌+◌, ◌<◌, ◌≤◌, Option, Some, IfSome, List, [], ◌∷◌, ◌++◌, length, map, take, drop, refl, sym, ap, ◌∙◌, subst, slice_get, get_or, zero-add, add-one, append_assoc, arith, Ok, Err}
-use Rattle.std.specs.Prelude.{Result, IsErr, IsErrAnd, IfErr, OnOk, is_ok, if◌then◌else◌, option_map}
+use Rattle.std.specs.Prelude.{Result, IsErr, IsErrAnd, IfErr, OnOk, option_map}
 use Rattle.std.specs.Io.KnownBytes.{Appends}
 use Rattle.std.specs.List.{flat_map, enumerate_from}
 use Rattle.std.proofs.lemmas.Result.{err_from_is_err_and}
@@ -17,14 +17,7 @@ use Rattle.route_io.proofs.Bytes.{appends_none, appends_on, front_after, front_m
 use Rattle.route_replay.specs.declared.ends.RunEnd.{RunEnd}
 use Rattle.route_replay.specs.declared.ends.RunEnd.TheVariants.{NoMemory, WriteFault}
 use Rattle.route_replay.specs.Gathering.{PageView, Gathers, Breaks}
-use Rattle.route_replay.specs.Lines.{ended}
-use Rattle.route_replay.proofs.Steps.{at_place}
-
--- the words of a line, and its end
-pub line_ended : {T E : Type 0} (r : Result T E) (before mid now words end : List ℕ) → mid ≡ before ++ words → now ≡ (if is_ok r then mid ++ end else mid) → end ≡ 10 ∷ [] → OnOk r (now ≡ before ++ ended words)
-line_ended (Ok x) before mid now words end is made one =
-    made ∙ (ap (λ bytes. bytes ++ end) is ∙ (ap (λ bytes. (before ++ words) ++ bytes) one ∙ append_assoc before words (10 ∷ [])))
-line_ended (Err e) before mid now words end is made one = tt
+use Rattle.view_words.proofs.Elements.{at_place}
 
 -- an error that a `?` hands on
 pub handed_on : {T E : Type 0} (r : Result T E) (Q P : E → Type 0) → IsErr r × IsErrAnd r Q → ((e : E) → Q e → P e) → IfErr r P

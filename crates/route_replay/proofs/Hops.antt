@@ -11,11 +11,11 @@ use Rattle.chronicle.specs.Run.{step, run}
 use Rattle.chronicle.specs.Steps.{Step, Idle, Goes}
 use Rattle.chronicle.specs.Walks.{ending}
 use Rattle.node_core.specs.NodeLimits.{Reached}
-use Rattle.world_core.specs.Effects.{Tells}
+use Rattle.run_record.specs.Effects.{Tells}
 use Rattle.node_core.specs.NodeLimits.{StopsAt}
 use Rattle.world_core.specs.Limits.{limit_of}
-use Rattle.world_core.specs.declared.outcomes.Effect.{Effect}
-use Rattle.world_core.specs.declared.outcomes.Outcome.TheVariants as outcome
+use Rattle.run_record.specs.declared.outcomes.Effect.{Effect}
+use Rattle.run_record.specs.declared.outcomes.Outcome.TheVariants as outcome
 use Rattle.node_core.specs.declared.outputs.Stop.{Stop}
 use Rattle.node_core.specs.declared.outputs.Stop.TheVariants as stop
 use Rattle.route_replay.specs.Text.{Course, Leads, unless, with_event, then_on, is_idle, hopped}

@@ -2,7 +2,6 @@ pub mod Acts
 pub mod Closures
 pub mod Counts
 pub mod Cuts
-pub mod Drafts
 pub mod Drains
 pub mod Ending
 pub mod Fitting
@@ -10,11 +9,9 @@ pub mod Probing
 pub mod Gathered
 pub mod Hops
 pub mod Keeping
-pub mod Listed
 pub mod Logs
 pub mod Mails
 pub mod Performed
-pub mod Planned
 pub mod Recorded
 pub mod Repeating
 pub mod Runs

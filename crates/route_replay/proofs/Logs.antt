@@ -6,7 +6,8 @@ use Rattle.path_vector.specs.History.{change}
 use Rattle.trigger_log.specs.declared.entries.Entry.{Entry as Shown}
 use Rattle.trigger_log.specs.Entries.{Entry}
 use Rattle.trigger_log.specs.Entered.{Entered, all_entered, Shows}
-use Rattle.route_replay.specs.LogText.{line_of, entry_line}
+use Rattle.view_words.specs.Entries.{line_of}
+use Rattle.route_replay.specs.LogText.{entry_line}
 
 -- there is one for each entry
 pub length-steps : (h : List Entry) → length (all_entered h) ≡ length h

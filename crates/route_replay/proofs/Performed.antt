@@ -8,7 +8,7 @@ use Rattle.node_core.specs.NodeLimits.{Reached}
 use Rattle.schedule_file.specs.declared.directives.Directive.{Directive}
 use Rattle.node_core.specs.declared.outputs.Stop.{Stop}
 use Rattle.node_core.specs.declared.outputs.Stop.TheVariants as stop_kind
-use Rattle.route_replay.specs.LoadSchedule.{unnumbered}
+use Rattle.load_plan.specs.LoadSchedule.{unnumbered}
 use Rattle.route_replay.specs.Performing.{AllFit}
 use Rattle.route_replay.specs.Text.{Course, Leads, Stops, course, events_by, events_of, stop, stop_by, task_of}
 use Rattle.route_replay.specs.Running.{Fitting, StopsIn}

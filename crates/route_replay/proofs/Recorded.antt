@@ -11,7 +11,7 @@ use Rattle.chronicle.specs.Facts.{Chronicle}
 use Rattle.chronicle.specs.Epochs.{cut}
 use Rattle.chronicle.specs.Recordings.{Recording, recording, recording_in, recording_after}
 use Rattle.node_core.specs.Alike.{Alike}
-use Rattle.route_replay.specs.CutText.{recording_of}
+use Rattle.view_words.specs.Cuts.{recording_of}
 
 module _ (acts : SnapshotActs) (u : ℕ) (past : Chronicle) (alike : Alike acts u past) (e v : ℕ) where
   -- the session that the cut of the run holds

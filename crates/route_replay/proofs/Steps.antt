@@ -1,7 +1,6 @@
 -- One directive of a schedule after the other.
-use Rattle.std.proofs.Common.{◌≡◌, ℕ, suc, ◌+◌, ◌<◌, Option, Some, List, [], ◌∷◌, ◌++◌, length, drop, get_or, refl, sym, ap, ◌∙◌, slice_get, add-one, append_assoc}
+use Rattle.std.proofs.Common.{◌≡◌, ℕ, suc, ◌+◌, ◌<◌, Option, Some, List, [], ◌∷◌, ◌++◌, length, drop, get_or, refl, sym, ap, ◌∙◌, add-one, append_assoc}
 use Rattle.std.proofs.Math.Seq.{drop-cons}
-use Rattle.std.proofs.lemmas.Option.{slice_get-get_or}
 use Rattle.topology.specs.Net.{Net}
 use Rattle.path_vector.specs.Rules.{Rules}
 use Rattle.chronicle.specs.declared.events.Event.{Event}
@@ -74,7 +73,3 @@ module _ (rules : Rules) (net : Net) (events : List Event) (lines : List Numbere
     rest_none led (λ later. text rules net later (drop (i + 1) lines)) one stops,
     sym so_far ∙ (ap (stop rules net events) (next_of lines i d inside at) ∙ stop_at led (λ later. stop rules net later (drop (i + 1) lines)) one stops),
   )
-
--- what stands at a place
-pub at_place : {X : Type 0} (xs : List X) (i : ℕ) (x : X) → i < length xs → slice_get xs i ≡ Some x → x ≡ get_or xs i x
-at_place xs i x inside found = let there = slice_get-get_or xs i x inside in let both : Some x ≡ Some (get_or xs i x) = sym found ∙ there in cc

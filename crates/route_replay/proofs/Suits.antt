@@ -11,14 +11,14 @@ use Rattle.topology.specs.Net.{joins, linked}
 use Rattle.topology.proofs.Tests.{and_both, or_first, or_second, same_refl}
 use Rattle.topology.proofs.Neighbours.{linked_sym}
 use Rattle.schedule_file.specs.declared.directives.Directive.{Directive}
-use Rattle.route_replay.specs.Draws.{drawn, given_below}
-use Rattle.route_replay.specs.LoadNetwork.{drafted, first_provider, second_provider, links_among, links_below, load_net, load_prefix, provider_links, sells, top_links}
-use Rattle.route_replay.specs.LoadSchedule.{announcement, announcements, announcer, cut_off_node, entrance, epoch_lines, further_epoch, further_epochs, load_directives, packet_lines, packets_lines}
+use Rattle.load_plan.specs.Draws.{drawn, given_below}
+use Rattle.load_plan.specs.LoadNetwork.{drafted, first_provider, second_provider, links_among, links_below, load_net, load_prefix, provider_links, sells, top_links}
+use Rattle.load_plan.specs.LoadSchedule.{announcement, announcements, announcer, cut_off_node, entrance, epoch_lines, further_epoch, further_epochs, load_directives, packet_lines, packets_lines}
 use Rattle.schedule_file.specs.declared.directives.Directive.TheVariants.{Drain}
 use Rattle.route_replay.specs.Performing.{AllFit}
 use Rattle.route_replay.specs.Running.{Fitting}
 use Rattle.route_replay.specs.Text.{task_of}
-use Rattle.route_replay.proofs.Drafts.{has_within}
+use Rattle.load_plan.proofs.Drafts.{has_within}
 
 -- what holds of both lists, and of all parts, holds of all
 

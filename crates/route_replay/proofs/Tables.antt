@@ -6,7 +6,7 @@ use Rattle.std.proofs.lemmas.List.Elements.{filter-append}
 use Rattle.stable_table.specs.Published as tables
 use Rattle.chronicle.specs.Facts.{Chronicle, Log, Sent, Took, Fail, Restore, Raise, Start, Mail, Heard, Crash, Restart, Publish, Visit, End}
 use Rattle.chronicle.specs.Publications.{Publication, epoch_of, publications, published}
-use Rattle.world_core.specs.Publications.{all_published, PublicationView}
+use Rattle.run_record.specs.Publications.{all_published, PublicationView}
 use Rattle.route_replay.specs.TablesText.{last_of, published_for, table_in}
 
 -- what stands last is found first

@@ -4,7 +4,7 @@ use Rattle.route_io.specs.Views.{SinkView}
 use Rattle.route_replay.specs.declared.ends.RunEnd.{RunEnd}
 use Rattle.route_replay.specs.declared.ends.RunEnd.TheVariants.{NoMemory}
 use Rattle.route_replay.specs.Gathering.{PageView, Gathers, Breaks}
-use Rattle.route_replay.specs.Lines.{ended}
+use Rattle.view_words.specs.Lines.{ended}
 use Rattle.route_replay.proofs.Gathered.{gathers_nothing, gathers_on, words_added, words_spilled, breaks_nothing, breaks_more, breaks_after}
 
 module _ (head visits last : List ℕ) where

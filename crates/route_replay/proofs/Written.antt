@@ -20,8 +20,8 @@ use Rattle.node_core.specs.declared.outputs.Stop.TheVariants as stop_kind
 use Rattle.route_replay.specs.Ends.{end_of}
 use Rattle.route_replay.specs.declared.ends.RunEnd.{RunEnd}
 use Rattle.route_replay.specs.declared.ends.RunEnd.TheVariants as end
-use Rattle.route_replay.specs.LoadNetwork.{load_net}
-use Rattle.route_replay.specs.LoadSchedule.{load_directives, load_lines, unnumbered}
+use Rattle.load_plan.specs.LoadNetwork.{load_net}
+use Rattle.load_plan.specs.LoadSchedule.{load_directives, load_lines, unnumbered}
 use Rattle.route_replay.specs.LoadText.{counted, load_events, load_stop, load_text, summary, unless_stopped}
 use Rattle.route_replay.specs.Loaded.{Loaded}
 use Rattle.route_replay.specs.Performing.{Performs, StopsLoad}

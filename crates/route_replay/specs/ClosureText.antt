@@ -8,16 +8,12 @@ use Rattle.incomplete_closure.specs.declared.values.Value.{Value}
 use Rattle.incomplete_closure.specs.Collecting.{value_of}
 use Rattle.chronicle.specs.Facts.{Chronicle}
 use Rattle.agreement_laws.specs.Decided.{told_reports}
-use Rattle.route_replay.specs.Lines.{ended, listed}
-use Rattle.route_replay.specs.LogText.{triggers_text}
+use Rattle.view_words.specs.Lines.{ended}
+use Rattle.view_words.specs.Values.{value_text}
 
 -- the value of the reports of all nodes that have a cut of the epoch, as they were sent
 abbrev pub value_at : Rules → Net → Chronicle → ℕ → Value
 value_at rules net past e = value_of (told_reports rules net past e (ascending net.nodes))
-
--- the nodes that responded and the incomplete triggers of a value
-abbrev pub value_text : Value → List ℕ
-value_text value = codes "S=" ++ listed decimal value.responding ++ codes " I=" ++ triggers_text value.incomplete
 
 -- the line of an epoch's value
 unfoldable pub closure_text : Rules → Net → Chronicle → ℕ → List ℕ

@@ -1,12 +1,8 @@
 pub mod CutText
 pub mod ClosureText
 pub mod ControlText
-pub mod Draws
 pub mod Ends
 pub mod Gathering
-pub mod Lines
-pub mod LoadNetwork
-pub mod LoadSchedule
 pub mod LoadText
 pub mod Loaded
 pub mod LogText
@@ -16,7 +12,6 @@ pub mod Performing
 pub mod Plain
 pub mod ProbeText
 pub mod Probed
-pub mod ReasonText
 pub mod Replayed
 pub mod RibText
 pub mod Running

@@ -13,14 +13,14 @@ use Rattle.chronicle.specs.declared.events.Event.{Event}
 use Rattle.chronicle.specs.Control.{mailed}
 use Rattle.chronicle.specs.Facts.{Chronicle}
 use Rattle.chronicle.specs.Logs.{log_of}
-use Rattle.world_core.specs.Publications.{all_published}
+use Rattle.run_record.specs.Publications.{all_published}
 use Rattle.chronicle.specs.Run.{run}
 use Rattle.node_core.specs.NodeLimits.{Reached}
-use Rattle.world_core.specs.Walks.{walk_of}
+use Rattle.run_record.specs.Walks.{walk_of}
 use Rattle.schedule_file.specs.declared.lines.Numbered.{Numbered}
-use Rattle.route_replay.specs.Lines.{ended}
-use Rattle.route_replay.specs.LoadNetwork.{load_net}
-use Rattle.route_replay.specs.LoadSchedule.{load_lines, load_packets}
+use Rattle.view_words.specs.Lines.{ended}
+use Rattle.load_plan.specs.LoadNetwork.{load_net}
+use Rattle.load_plan.specs.LoadSchedule.{load_lines, load_packets}
 use Rattle.route_replay.specs.Text.{events_of, stop}
 
 abbrev pub same_end : End → End → Bool

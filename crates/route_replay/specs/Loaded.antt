@@ -10,7 +10,7 @@ use Rattle.route_io.specs.Views.{SinkView}
 use Rattle.path_vector.specs.GaoRexford.{gao_rexford}
 use Rattle.world_core.specs.Throughout.{HoldsThroughout}
 use Rattle.node_core.specs.NodeLimits.{Reached}
-use Rattle.route_replay.specs.LoadNetwork.{load_net}
+use Rattle.load_plan.specs.LoadNetwork.{load_net}
 use Rattle.route_replay.specs.LoadText.{load_events, load_stop, load_text}
 
 -- the statuses with which a load may end

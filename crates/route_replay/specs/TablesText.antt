@@ -1,32 +1,13 @@
 -- The text of tables: for each node a line for each prefix.
-use Rattle.std.specs.Prelude.{ℕ, ◌==◌, Option, Some, None, List, [], ◌∷◌, ◌++◌, codes, map, filter, find, reverse}
+use Rattle.std.specs.Prelude.{ℕ, ◌==◌, Option, Some, None, List, [], ◌∷◌, map, filter, find, reverse}
 use Rattle.std.specs.List.{flat_map, enumerate_from}
-use Rattle.std.specs.Fmt.{decimal}
 use Rattle.topology.specs.declared.prefixes.Prefix.{Prefix}
 use Rattle.topology.specs.Lists.{ascending}
 use Rattle.topology.specs.Net.{Net}
 use Rattle.chronicle.specs.Facts.{Chronicle}
 use Rattle.chronicle.specs.Publications.{Publication, path_in, published}
-use Rattle.world_core.specs.Publications.{all_published, PublicationView}
-use Rattle.schedule_file.specs.Spelling.{prefix_text}
-use Rattle.route_replay.specs.Lines.{ended}
-use Rattle.route_replay.specs.RibText.{path_text}
-
--- a node and an epoch
-abbrev pub table_head : ℕ → ℕ → List ℕ
-table_head u e = codes "table " ++ decimal u ++ codes " " ++ decimal e
-
--- a prefix, as it stands in its lines
-abbrev pub prefix_name : Prefix → List ℕ
-prefix_name prefix = codes " " ++ prefix_text prefix ++ codes ":"
-
--- the path of a prefix in the table of e at u
-abbrev pub table_line : ℕ → ℕ → Prefix → Option (List ℕ) → List ℕ
-table_line u e prefix path = ended (table_head u e ++ codes " " ++ prefix_text prefix ++ codes ":" ++ path_text path)
-
--- u has published no table of e
-abbrev pub unpublished_line : ℕ → ℕ → List ℕ
-unpublished_line u e = ended (table_head u e ++ codes ": unpublished")
+use Rattle.run_record.specs.Publications.{all_published, PublicationView}
+use Rattle.view_words.specs.Tables.{table_line, unpublished_line}
 
 -- the lines of one node: of its table, prefix by prefix in file order, where it has published one
 abbrev pub table_lines : Net → ℕ → ℕ → Option Publication → List (List ℕ)

@@ -19,8 +19,8 @@ use Rattle.route_replay.specs.declared.tasks.Task.{Task}
 use Rattle.route_replay.specs.declared.tasks.Task.TheVariants as task
 use Rattle.route_replay.specs.declared.node_views.NodeView.TheVariants.{Rib, Log, Cut}
 use Rattle.route_replay.specs.declared.views.View.TheVariants as view
-use Rattle.route_replay.specs.Lines.{ended}
-use Rattle.route_replay.specs.ReasonText.{reason_words}
+use Rattle.view_words.specs.Lines.{ended}
+use Rattle.view_words.specs.Reasons.{reason_words}
 use Rattle.route_replay.specs.Views.{view_text}
 
 -- the line of an event that did nothing

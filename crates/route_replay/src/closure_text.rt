@@ -1,5 +1,5 @@
 //! The text of the value of an epoch.
-ghost use Rattle.std.specs.Prelude.{ℕ, ◌≡◌, ◌++◌, [], ◌∷◌, codes, decimal, map, IfErr, IfOk, OnOk};
+ghost use Rattle.std.specs.Prelude.{ℕ, ◌≡◌, ◌++◌, [], ◌∷◌, map, IfErr, IfOk, OnOk};
 ghost use Rattle.std.specs.Rc.{rc_value};
 ghost use Rattle.std.specs.String.{string_bytes};
 ghost use Rattle.topology.specs.Lists.{ascending};
@@ -9,25 +9,24 @@ ghost use Rattle.incomplete_closure.specs.Together.{OfOneEpoch};
 ghost use Rattle.chronicle.specs.Facts.{Chronicle};
 ghost use Rattle.node_core.specs.Standing.{StandsFor};
 ghost use Rattle.agreement_laws.specs.Decided.{told_reports};
-ghost use Rattle.route_replay.specs.ClosureText.{closure_text, value_text};
+ghost use Rattle.route_replay.specs.ClosureText.{closure_text};
 ghost use Rattle.route_replay.specs.Gathering.{Breaks, Gathers, page_view};
-ghost use Rattle.route_replay.specs.Lines.{further, listed};
 ghost use Rattle.route_replay.specs.Past.{past_of};
 ghost use Rattle.route_replay.specs.ShownClosure.{IsCurrent};
 
 use crate::ends::RunEnd;
-use crate::log_text::triggers_words;
 use crate::node_views::node_of;
-use crate::numbers::{push_node, push_number};
 use crate::page::Page;
 use crate::shown_closure::{ShownClosure, line_of};
-use incomplete_closure::{Report, Value, uncounted_closure};
+use incomplete_closure::{Report, uncounted_closure};
 use node_core::Node;
 use path_vector::Policy;
 use route_io::Sink;
-use std::alloc::{AllocError, Global};
+use std::alloc::Global;
 use std::rc::Rc;
-use topology::{Epoch, NoMemory, NodeId};
+use topology::{Epoch, NoMemory};
+use view_words::numbers::push_number;
+use view_words::values::value_words;
 use world_core::World;
 
 // Adds what a node reported of its cut of the epoch, where it has one.
@@ -63,38 +62,6 @@ fn reports_of<P: Policy + Copy>(
         add_report(&mut reports, node_of(world, *id), epoch)?;
     }
     Ok(reports)
-}
-
-// Nodes, each after a comma.
-fn further_nodes(out: &mut String, nodes: &[NodeId]) -> Result<(), AllocError>
-    ensures { OnOk result (string_bytes out.new ≡ string_bytes out.old ++ further decimal nodes.now) }
-{
-    for node in nodes {
-        out.push(',')?;
-        push_node(out, *node)?;
-    }
-    Ok(())
-}
-
-// Nodes, with commas between them.
-fn node_words(out: &mut String, nodes: &[NodeId]) -> Result<(), AllocError>
-    ensures { OnOk result (string_bytes out.new ≡ string_bytes out.old ++ listed decimal nodes.now) }
-{
-    let [first, rest @ ..] = nodes else {
-        return out.push('-');
-    };
-    push_node(out, *first)?;
-    further_nodes(out, rest)
-}
-
-/// Adds the nodes that responded and the incomplete triggers of a value.
-pub(crate) fn value_words(out: &mut String, value: &Value) -> Result<(), AllocError>
-    ensures { OnOk result (string_bytes out.new ≡ string_bytes out.old ++ value_text value.now) }
-{
-    out.push_str("S=")?;
-    node_words(out, value.responding.as_slice())?;
-    out.push_str(" I=")?;
-    triggers_words(out, value.incomplete.as_slice())
 }
 
 /// Adds the line of the value of an epoch, over the reports of all nodes that have a cut of it.

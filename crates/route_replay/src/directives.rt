@@ -6,7 +6,7 @@ ghost use Rattle.chronicle.specs.Facts.{Chronicle};
 ghost use Rattle.chronicle.specs.Walks.{ending};
 ghost use Rattle.chronicle.specs.Run.{run, step};
 ghost use Rattle.chronicle.specs.Steps.{Step};
-ghost use Rattle.world_core.specs.Effects.{Tells};
+ghost use Rattle.run_record.specs.Effects.{Tells};
 ghost use Rattle.world_core.specs.Fits.{fits};
 ghost use Rattle.route_replay.specs.Text.{idle_line, task_of, said, step_text, course, controlled, drained, hopped, is_idle, with_event};
 ghost use Rattle.route_replay.specs.Past.{past_of};
@@ -14,9 +14,7 @@ ghost use Rattle.route_replay.specs.Running.{Fitting, Advances, StopsIn, lines_b
 ghost use Rattle.route_replay.specs.ShownClosure.{IsCurrent};
 
 use crate::ends::RunEnd;
-use crate::numbers::push_number;
 use crate::page::Page;
-use crate::reason_text::reason_words;
 use crate::shown_closure::{ShownClosure, keep_through};
 use crate::tasks::{Task, task_of};
 use crate::views::show;
@@ -25,6 +23,8 @@ use route_io::Sink;
 use schedule_file::Numbered;
 use std::alloc::{AllocError, Global};
 use topology::Reason;
+use view_words::numbers::push_number;
+use view_words::reasons::reason_words;
 use world_core::{Event, Outcome, Stop, World};
 
 // Adds the line of an event that did nothing.

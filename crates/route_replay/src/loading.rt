@@ -2,7 +2,7 @@
 ghost use Rattle.std.specs.Prelude.{[], IfOk, IfErr};
 ghost use Rattle.path_vector.specs.GaoRexford.{gao_rexford};
 ghost use Rattle.route_replay.specs.Loaded.{Loaded};
-ghost use Rattle.route_replay.specs.LoadSchedule.{unnumbered};
+ghost use Rattle.load_plan.specs.LoadSchedule.{unnumbered};
 ghost use Rattle.route_replay.specs.LoadText.{counted};
 ghost use Rattle.route_replay.specs.Performing.{AllFit, Performs, StopsLoad};
 ghost use Rattle.route_replay.specs.Running.{Advances, Fitting, Runs, StopsIn};
@@ -10,10 +10,10 @@ ghost use Rattle.route_replay.specs.Text.{course, stop, task_of};
 
 use crate::directives::{control_all, drain, hop};
 use crate::ends::RunEnd;
-use crate::load_schedule::{Load, load_of};
 use crate::runner::{AtEnd, end};
 use crate::summary::write_summary;
 use crate::tasks::{Task, task_of};
+use load_plan::{Load, load_of};
 use path_vector::{GaoRexford, Policy};
 use route_io::Sink;
 use schedule_file::Directive;

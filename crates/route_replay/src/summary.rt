@@ -3,22 +3,22 @@ ghost use Rattle.std.specs.Prelude.{◌≡◌, ◌+◌, ◌<◌, ◌^◌, ◌++�
 ghost use Rattle.std.specs.String.{string_bytes};
 ghost use Rattle.topology.specs.Lists.{has};
 ghost use Rattle.chronicle.specs.Logs.{log_of};
-ghost use Rattle.world_core.specs.Walks.{walk_of};
+ghost use Rattle.run_record.specs.Walks.{walk_of};
 ghost use Rattle.route_replay.specs.LoadText.{count_line, entries_of, same_end, size_lines, standing_so, stands_at, summary, walk_lines, walk_stands};
 ghost use Rattle.route_replay.specs.Running.{Runs};
 ghost use Rattle.route_replay.specs.Past.{past_of};
 
 use crate::ends::RunEnd;
-use crate::load_schedule::PACKETS;
 use crate::node_views::node_of;
-use crate::numbers::push_wide;
 use crate::page::Page;
 use epoch_packet::End;
+use load_plan::PACKETS;
 use path_vector::Policy;
 use route_io::Sink;
 use std::alloc::{AllocError, Global};
 use topology::limits::MOST_LINKS;
 use topology::{NodeId, Topology};
+use view_words::numbers::push_wide;
 use world_core::World;
 
 // The most links of a network, as a place among them.

@@ -2,20 +2,17 @@
 ghost use Rattle.std.specs.Prelude.{◌≡◌, ◌++◌, Some, None, option_map, IfErr, IfOk, OnOk};
 ghost use Rattle.std.specs.String.{string_bytes};
 ghost use Rattle.route_replay.specs.Gathering.{Gathers, Breaks, page_view};
-ghost use Rattle.route_replay.specs.Lines.{ended};
-ghost use Rattle.route_replay.specs.RibText.{path_text};
-ghost use Rattle.route_replay.specs.TablesText.{last_of, published_for, table_head, table_in, table_text, tables_text, unpublished_line};
+ghost use Rattle.route_replay.specs.TablesText.{last_of, published_for, table_in, table_text, tables_text};
 ghost use Rattle.route_replay.specs.Past.{past_of};
 
 use crate::ends::RunEnd;
-use crate::numbers::{push_node, push_number};
 use crate::page::Page;
-use crate::rib_text::path_words;
-use crate::table_names::TableNames;
 use path_vector::Policy;
 use route_io::Sink;
-use std::alloc::{AllocError, Global};
+use std::alloc::Global;
 use topology::{Epoch, NoMemory, NodeId, PrefixId, Topology};
+use view_words::table_names::TableNames;
+use view_words::tables::{head_of, table_words, unpublished_words};
 use world_core::{Publication, World};
 
 // What was published for the epoch, the oldest first. The tables are shared.
@@ -46,61 +43,6 @@ fn last_of(publications: &[Publication], node: NodeId) -> Option<&Publication>
         }
     }
     last
-}
-
-// A node and an epoch.
-fn head_words(out: &mut String, node: NodeId, epoch: Epoch) -> Result<(), AllocError>
-    ensures { OnOk result (string_bytes out.new ≡ string_bytes out.old ++ table_head node epoch) }
-{
-    out.push_str("table ")?;
-    push_node(out, node)?;
-    out.push(' ')?;
-    push_number(out, epoch.number())
-}
-
-// The line of a node that published no table of the epoch.
-fn unpublished_words(out: &mut String, node: NodeId, epoch: Epoch) -> Result<(), AllocError>
-    ensures { OnOk result (string_bytes out.new ≡ string_bytes out.old ++ unpublished_line node epoch) }
-{
-    head_words(out, node, epoch)?;
-    out.push_str(": unpublished")?;
-    out.push('\n')
-}
-
-// A path, or none.
-fn table_path_words(out: &mut String, path: Option<&[NodeId]>) -> Result<(), AllocError>
-    ensures { OnOk result (string_bytes out.new
-        ≡ string_bytes out.old ++ path_text (option_map (λ nodes. nodes.now) path.entry)) }
-{
-    match path {
-        None => out.push_str(" none"),
-        Some(nodes) => path_words(out, nodes),
-    }
-}
-
-// What each line of the table of a node begins with.
-fn head_of(alloc: Global, node: NodeId, epoch: Epoch) -> Result<String, AllocError>
-    ensures { IfOk result (λ head. string_bytes head ≡ table_head node epoch) }
-{
-    let mut head = String::new(alloc);
-    head_words(&mut head, node, epoch)?;
-    Ok(head)
-}
-
-// The line of a prefix in the table of a node: what it begins with, the words of the prefix, and the path.
-fn table_words(
-    out: &mut String,
-    head: &str,
-    name: &str,
-    path: Option<&[NodeId]>,
-) -> Result<(), AllocError>
-    ensures { OnOk result (string_bytes out.new ≡ string_bytes out.old
-        ++ ended (head.now ++ name.now ++ path_text (option_map (λ nodes. nodes.now) path.entry))) }
-{
-    out.push_str(head)?;
-    out.push_str(name)?;
-    table_path_words(out, path)?;
-    out.push('\n')
 }
 
 // Adds the line of a node that published no table of the epoch.

@@ -1,53 +1,20 @@
 //! The text of walks.
-ghost use Rattle.std.specs.Prelude.{◌≡◌, ◌++◌, Some, None, codes, IfErr, OnOk};
+ghost use Rattle.std.specs.Prelude.{◌≡◌, ◌++◌, Some, IfErr, OnOk};
 ghost use Rattle.std.specs.List.{flat_map};
 ghost use Rattle.std.specs.String.{string_bytes};
 ghost use Rattle.route_replay.specs.Gathering.{Gathers, Breaks, page_view};
 ghost use Rattle.route_replay.specs.Past.{past_of};
-ghost use Rattle.route_replay.specs.Lines.{ended};
-ghost use Rattle.route_replay.specs.WalkText.{end_text, mode_text, visit_text, walk_head, walk_line, walk_text};
+ghost use Rattle.view_words.specs.Lines.{ended};
+ghost use Rattle.view_words.specs.Walks.{visit_text, walk_line};
+ghost use Rattle.route_replay.specs.WalkText.{walk_text};
 
 use crate::ends::RunEnd;
-use crate::numbers::{push_node, push_number};
 use crate::page::Page;
-use epoch_packet::{End, Mode, Visit};
+use epoch_packet::{End, Visit};
 use path_vector::Policy;
 use route_io::Sink;
-use std::alloc::AllocError;
-use topology::Epoch;
+use view_words::walks::{end_words, head_words, unknown_words, visit_words};
 use world_core::World;
-
-// By which tables the packet goes, or that it is off the tables.
-fn mode_words(out: &mut String, mode: Mode, epoch: Epoch) -> Result<(), AllocError>
-    ensures { OnOk result (string_bytes out.new ≡ string_bytes out.old ++ mode_text mode epoch) }
-{
-    match mode {
-        Mode::Stable => push_number(out, epoch.number()),
-        Mode::Transient => out.push('t'),
-    }
-}
-
-fn visit_words(out: &mut String, visit: &Visit) -> Result<(), AllocError>
-    ensures { OnOk result (string_bytes out.new ≡ string_bytes out.old ++ visit_text visit.now) }
-{
-    out.push(' ')?;
-    push_node(out, visit.node)?;
-    out.push('@')?;
-    mode_words(out, visit.mode, visit.epoch)
-}
-
-// How the walk ended, and the end of its line.
-pub(crate) fn end_words(out: &mut String, end: Option<End>) -> Result<(), AllocError>
-    ensures { OnOk result (string_bytes out.new ≡ string_bytes out.old ++ ended (codes " " ++ end_text end)) }
-{
-    out.push_str(match end {
-        None => " moving",
-        Some(End::Delivered) => " delivered",
-        Some(End::Expired) => " expired",
-        Some(End::Stuck) => " stuck",
-    })?;
-    out.push('\n')
-}
 
 // Adds the visits of a walk, the oldest first.
 fn add_visits<O: Sink>(page: &mut Page<'_, String, O>, visits: &[Visit]) -> Result<(), RunEnd>
@@ -62,24 +29,6 @@ fn add_visits<O: Sink>(page: &mut Page<'_, String, O>, visits: &[Visit]) -> Resu
         page.spill()?;
     }
     Ok(())
-}
-
-// The number of the packet.
-fn head_words(out: &mut String, packet: u32) -> Result<(), AllocError>
-    ensures { OnOk result (string_bytes out.new ≡ string_bytes out.old ++ walk_head packet) }
-{
-    out.push_str("walk ")?;
-    push_number(out, packet)?;
-    out.push(':')
-}
-
-// The line of a packet that never entered the network.
-fn unknown_words(out: &mut String, packet: u32) -> Result<(), AllocError>
-    ensures { OnOk result (string_bytes out.new ≡ string_bytes out.old ++ walk_line packet None) }
-{
-    head_words(out, packet)?;
-    out.push_str(" unknown")?;
-    out.push('\n')
 }
 
 // Adds the line of a walk.

@@ -32,10 +32,10 @@ use Rattle.node_core.specs.Coming.{IsPlaced}
 use Rattle.chronicle.proofs.Blocks.{same_number}
 use Rattle.world_core.specs.Happening.{IsAfterStep}
 use Rattle.world_core.specs.declared.network.Network.{Network}
-use Rattle.world_core.specs.declared.outcomes.Outcome.{Outcome}
-use Rattle.world_core.specs.declared.outcomes.Outcome.TheVariants as outcome
-use Rattle.world_core.specs.declared.outcomes.Effect.{Effect}
-use Rattle.world_core.specs.Effects.{effects}
+use Rattle.run_record.specs.declared.outcomes.Outcome.{Outcome}
+use Rattle.run_record.specs.declared.outcomes.Outcome.TheVariants as outcome
+use Rattle.run_record.specs.declared.outcomes.Effect.{Effect}
+use Rattle.run_record.specs.Effects.{effects}
 use Rattle.world_core.specs.Limits.{triggers_of, has_more_marks}
 use Rattle.link_model.specs.declared.links.Links.{Links}
 use Rattle.world_core.specs.Matching.{AreLinks, Counts, IsCounted, Stands}

@@ -33,25 +33,25 @@ use Rattle.node_core.specs.declared.outputs.Outputs.{Outputs}
 use Rattle.node_core.specs.declared.outputs.Outputs.TheVariants.{Did, Idle as Declines}
 use Rattle.control_mail.specs.Seen.{Office}
 use Rattle.world_core.specs.declared.network.Network.{Network}
-use Rattle.world_core.specs.declared.network.account.Wanted.{Wanted}
-use Rattle.world_core.specs.declared.outcomes.Effect.{Effect}
-use Rattle.world_core.specs.declared.outcomes.Outcome.TheVariants as outcome
-use Rattle.world_core.specs.Accounts.{AccountView}
-use Rattle.world_core.specs.Effects.{effects, Tells}
+use Rattle.run_record.specs.declared.account.Wanted.{Wanted}
+use Rattle.run_record.specs.declared.outcomes.Effect.{Effect}
+use Rattle.run_record.specs.declared.outcomes.Outcome.TheVariants as outcome
+use Rattle.run_record.specs.Accounts.{AccountView}
+use Rattle.run_record.specs.Effects.{effects, Tells}
 use Rattle.world_core.specs.Happening.{AreSending, GoesWhere, KeepsNodes, Since, away_with, handed}
-use Rattle.world_core.specs.Publications.{PublicationView, all_published}
+use Rattle.run_record.specs.Publications.{PublicationView, all_published}
 use Rattle.world_core.specs.Limits.{triggers_of, has_more_marks, makes_local}
 use Rattle.world_core.specs.Matching.{AreCrashed, AreLinks, AreMails, AreNodes, Counts, IsCounted, Stands}
 use Rattle.topology.specs.declared.limits.TheConstants.{MOST_TRIGGERS, MOST_CONTROL, MOST_PACKETS}
 use Rattle.world_core.specs.Telling.{AreTold}
 use Rattle.world_core.specs.Turning.{Handles}
-use Rattle.world_core.specs.Walks.{AreWalks, AreWalksBut, JourneyView, still_after}
+use Rattle.run_record.specs.Walks.{AreWalks, AreWalksBut, JourneyView, still_after}
 use Rattle.world_core.proofs.Counts.{LogsBy, give_logs, not_fewer, total_now}
 use Rattle.world_core.proofs.Nodes.{nodes_at}
 use Rattle.world_core.proofs.Mailing.{same_mails}
 use Rattle.world_core.proofs.Telling.{AddsBy, begun}
 use Rattle.world_core.proofs.Returning.{ComesBack}
-use Rattle.world_core.proofs.Walking.{all_back, walks_stay}
+use Rattle.run_record.proofs.Walking.{all_back, walks_stay}
 
 -- ---- what the node handed out
 

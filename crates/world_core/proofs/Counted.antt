@@ -5,7 +5,7 @@ use Rattle.chronicle.specs.declared.events.Event.{Event}
 use Rattle.chronicle.specs.Facts.{Chronicle}
 use Rattle.chronicle.specs.Run.{actor, does, is_stopped, step}
 use Rattle.world_core.specs.declared.network.Network.{Network}
-use Rattle.world_core.specs.declared.outcomes.Outcome.{Outcome}
+use Rattle.run_record.specs.declared.outcomes.Outcome.{Outcome}
 use Rattle.node_core.specs.declared.outputs.Stop.{Stop}
 use Rattle.world_core.specs.Happening.{IsAfterStep, IsAsWas, IsRegular, KeepsAllButMails, Stops}
 use Rattle.world_core.specs.Matching.{AreMails, Counts, Stands}

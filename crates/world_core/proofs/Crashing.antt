@@ -32,7 +32,7 @@ use Rattle.world_core.proofs.AfterSteps.{crash_counted, crash_links, restart_cou
 use Rattle.world_core.proofs.Handed.{both_of}
 use Rattle.world_core.proofs.Mailing.{stopped_mails, started_mails}
 use Rattle.world_core.proofs.Nodes.{same_nodes}
-use Rattle.world_core.proofs.Walking.{walks_stay}
+use Rattle.run_record.proofs.Walking.{walks_stay}
 
 -- each control message goes to a node of the network
 abbrev pub LettersStay : Net → Chronicle → Type 0

@@ -7,7 +7,8 @@ use Rattle.trigger_log.specs.Entries.{locals}
 use Rattle.trigger_log.specs.Sending.{sent_of}
 use Rattle.trigger_log.proofs.Collected.{none_at_first}
 use Rattle.topology.specs.declared.limits.TheConstants.{MOST_MARKS}
-use Rattle.node_core.specs.Counted.{entry_marks, item_marks, row_marks}
+use Rattle.node_core.specs.Counted.{entry_marks}
+use Rattle.message_fitting.specs.Marks.{item_marks, row_marks}
 use Rattle.node_core.specs.NodeLimits.{marks_of}
 use Rattle.world_core.proofs.Counts.{any_none}
 use Rattle.chronicle.specs.Logs.{log_of}

@@ -28,17 +28,17 @@ use Rattle.cut_laws.specs.Delivered.{Did}
 use Rattle.topology.specs.declared.status.Reason.TheVariants.{NoSuchMessage, PacketKnown}
 use Rattle.node_core.specs.Coming.{MayCome}
 use Rattle.world_core.specs.declared.network.Network.{Network}
-use Rattle.world_core.specs.declared.network.account.Wanted.TheVariants.{Effects}
-use Rattle.world_core.specs.declared.outcomes.Outcome.{Outcome}
+use Rattle.run_record.specs.declared.account.Wanted.TheVariants.{Effects}
+use Rattle.run_record.specs.declared.outcomes.Outcome.{Outcome}
 use Rattle.node_core.specs.declared.outputs.Stop.{Stop}
 use Rattle.world_core.specs.Fits.{fits}
 use Rattle.world_core.specs.Happening.{GoesWhere, HappensWhere, IsAfterStep, IsAsWas, IsRegular, MayArrive, MayHand, PacketIsIn, SenderIsIn, Stops, away_with}
 use Rattle.world_core.specs.Happening.{handed as handing}
 use Rattle.world_core.specs.Matching.{AreCrashed, AreLinks, AreMails, AreNodes, Counts, IsCounted, Stands}
-use Rattle.world_core.specs.Publications.{all_published}
-use Rattle.world_core.specs.Walks.{AreWalks, AreWalksBut, JourneyView, Takes, is_of}
+use Rattle.run_record.specs.Publications.{all_published}
+use Rattle.run_record.specs.Walks.{AreWalks, AreWalksBut, JourneyView, Takes, is_of}
 use Rattle.world_core.proofs.Mailing.{letter_inside}
-use Rattle.world_core.proofs.Walking.{stands_by, stands_nowhere}
+use Rattle.run_record.proofs.Walking.{stands_by, stands_nowhere}
 use Rattle.world_core.proofs.AfterSteps.{arrival_goes, comes_so, stands_so, deliver_front, front_placed, notice_over, open_step}
 
 -- u may be handed the input, and what it then does is what the event does

@@ -20,7 +20,7 @@ use Rattle.chronicle.specs.Walks.{standing}
 use Rattle.node_core.specs.declared.outputs.Output.{Output as Given}
 use Rattle.node_core.specs.Outputs.{Output, Logged, Cut, Send, Mail, Published, Forward, Ended, Hands, output_by, output_of, outputs}
 use Rattle.world_core.specs.Telling.{AreTold, IsTold, shown}
-use Rattle.world_core.specs.Walks.{IsPassing}
+use Rattle.run_record.specs.Walks.{IsPassing}
 
 -- what holds after each success of a last call holds after the function
 pub on_ok_by : {T E Q : Type 0} (r : Result T E) → ((x : T) → r ≡ Ok x → Q) → OnOk r Q

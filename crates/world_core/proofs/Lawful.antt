@@ -12,9 +12,9 @@ use Rattle.chronicle.specs.Channels.{channel}
 use Rattle.chronicle.specs.Links.{link}
 use Rattle.chronicle.specs.Steps.{Step, Idle, Goes}
 use Rattle.cut_laws.specs.Own.{MayHear}
-use Rattle.world_core.specs.declared.outcomes.Outcome.{Outcome}
-use Rattle.world_core.specs.declared.outcomes.Outcome.TheVariants as outcome
-use Rattle.world_core.specs.Effects.{Tells}
+use Rattle.run_record.specs.declared.outcomes.Outcome.{Outcome}
+use Rattle.run_record.specs.declared.outcomes.Outcome.TheVariants as outcome
+use Rattle.run_record.specs.Effects.{Tells}
 use Rattle.world_core.specs.Sound.{IsNoStray}
 use Rattle.cut_laws.specs.Joined.{Joined, FrontFits}
 use Rattle.world_core.specs.Happening.{IsRegular}

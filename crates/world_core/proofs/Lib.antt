@@ -1,5 +1,4 @@
 pub mod Places
-pub mod Walking
 pub mod Due
 pub mod Counted
 pub mod Inside

@@ -24,7 +24,7 @@ use Rattle.chronicle.specs.Run.{given}
 use Rattle.chronicle.specs.Steps.{Step, Idle, Goes}
 use Rattle.chronicle.proofs.Quiet.{quiet_readings}
 use Rattle.world_core.specs.Happening.{away_with}
-use Rattle.world_core.specs.Walks.{still, still_after}
+use Rattle.run_record.specs.Walks.{still, still_after}
 use Rattle.world_core.proofs.Telling.{begun}
 
 -- after the facts of the step no packet is away that was with the input

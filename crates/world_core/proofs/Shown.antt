@@ -5,18 +5,18 @@ use Rattle.topology.specs.Net.{Net}
 use Rattle.trigger_log.specs.Going.{Going}
 use Rattle.chronicle.specs.Facts.{Fact, Chronicle, Sent, happen}
 use Rattle.node_core.specs.Outputs.{Output, output_by}
-use Rattle.world_core.specs.declared.network.account.Wanted.{Wanted}
-use Rattle.world_core.specs.declared.network.account.Wanted.TheVariants.{Effects}
-use Rattle.world_core.specs.declared.outcomes.Effect.{Effect}
-use Rattle.world_core.specs.declared.outcomes.Effect.TheVariants.{Queued, Lost}
-use Rattle.world_core.specs.Accounts.{AccountView}
-use Rattle.world_core.specs.Effects.{effects, effect_by}
+use Rattle.run_record.specs.declared.account.Wanted.{Wanted}
+use Rattle.run_record.specs.declared.account.Wanted.TheVariants.{Effects}
+use Rattle.run_record.specs.declared.outcomes.Effect.{Effect}
+use Rattle.run_record.specs.declared.outcomes.Effect.TheVariants.{Queued, Lost}
+use Rattle.run_record.specs.Accounts.{AccountView}
+use Rattle.run_record.specs.Effects.{effects, effect_by}
 use Rattle.world_core.specs.declared.network.Network.{Network}
 use Rattle.node_core.specs.declared.outputs.Output.{Output as Given}
 use Rattle.world_core.specs.Happening.{AreSending, KeepsNodes, Since}
 use Rattle.world_core.specs.Matching.{Counts}
 use Rattle.world_core.specs.Telling.{AreTold, IsTold, shown}
-use Rattle.world_core.specs.Walks.{still, still_after}
+use Rattle.run_record.specs.Walks.{still, still_after}
 use Rattle.world_core.proofs.Handing.{handed_next, handed_none, happen_last}
 use Rattle.world_core.proofs.Returning.{still_last}
 

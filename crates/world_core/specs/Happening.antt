@@ -30,19 +30,19 @@ use Rattle.cut_laws.specs.Delivered.{Did}
 use Rattle.cut_laws.specs.Joined.{Joined, FrontFits}
 use Rattle.cut_laws.specs.Own.{MayHear}
 use Rattle.node_core.specs.Coming.{MayCome}
-use Rattle.world_core.specs.declared.network.account.Wanted.TheVariants.{Effects}
-use Rattle.world_core.specs.declared.outcomes.Effect.{Effect}
+use Rattle.run_record.specs.declared.account.Wanted.TheVariants.{Effects}
+use Rattle.run_record.specs.declared.outcomes.Effect.{Effect}
 use Rattle.world_core.specs.declared.network.Network.{Network}
-use Rattle.world_core.specs.declared.outcomes.Outcome.{Outcome}
+use Rattle.run_record.specs.declared.outcomes.Outcome.{Outcome}
 use Rattle.node_core.specs.declared.outputs.Stop.{Stop}
-use Rattle.world_core.specs.Accounts.{AccountView}
+use Rattle.run_record.specs.Accounts.{AccountView}
 use Rattle.world_core.specs.Counting.{AreFew, counts_after}
-use Rattle.world_core.specs.Effects.{effects, Tells}
+use Rattle.run_record.specs.Effects.{effects, Tells}
 use Rattle.node_core.specs.NodeLimits.{StopsAt}
 use Rattle.world_core.specs.Limits.{triggers_of, above_by}
 use Rattle.world_core.specs.Matching.{AreCrashed, AreLinks, AreMails, AreNodes, Counts, IsCounted, Stands}
-use Rattle.world_core.specs.Publications.{all_published}
-use Rattle.world_core.specs.Walks.{AreWalksBut}
+use Rattle.run_record.specs.Publications.{all_published}
+use Rattle.run_record.specs.Walks.{AreWalksBut}
 
 -- facts that hold after every list of events: each node may enter and hear the first item of each way to it; each way
 -- is joined; no link has used up the numbers of its sessions

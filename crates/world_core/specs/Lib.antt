@@ -1,11 +1,5 @@
 pub mod View
-pub mod Publications
-pub mod Walks
-pub mod Finding
 pub mod Fits
-pub mod Effects
-pub mod EffectLists
-pub mod Accounts
 pub mod Limits
 pub mod Places
 pub mod Turning

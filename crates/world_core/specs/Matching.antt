@@ -24,8 +24,8 @@ use Rattle.world_core.specs.declared.network.Network.{Network}
 use Rattle.topology.specs.declared.limits.TheConstants.{MOST_TRIGGERS, MOST_CONTROL, MOST_PACKETS}
 use Rattle.world_core.specs.Limits.{triggers_of, has_more_marks}
 use Rattle.chronicle.specs.Walks.{packets}
-use Rattle.world_core.specs.Publications.{all_published}
-use Rattle.world_core.specs.Walks.{AreWalks}
+use Rattle.run_record.specs.Publications.{all_published}
+use Rattle.run_record.specs.Walks.{AreWalks}
 
 -- the nodes stand ascending, each as the run has it
 pub record AreNodes {P : Type 0} (policy : P) (rules : Rules) (net : Net) (past : Chronicle)

@@ -19,8 +19,8 @@ use Rattle.chronicle.specs.Logs.{log_of}
 use Rattle.chronicle.specs.Publications.{publications}
 use Rattle.chronicle.specs.Recordings.{recording}
 use Rattle.chronicle.specs.Run.{run}
-use Rattle.world_core.specs.Publications.{all_published}
-use Rattle.world_core.specs.Walks.{walk_of}
+use Rattle.run_record.specs.Publications.{all_published}
+use Rattle.run_record.specs.Walks.{walk_of}
 
 -- node v keeps its log and the count of dropped entries, its epoch, its cuts and recordings, its reports, its promises,
 -- acceptances and last started ballot in each agreement, the decisions that it knows, and its tables

@@ -21,8 +21,8 @@ use Rattle.agreement_laws.specs.Agreed.{IsAgreed}
 use Rattle.drop_laws.specs.Dropped.{DropsAreUnseen, RestsAsTold, DropsAreInCuts}
 use Rattle.walk_laws.specs.Walked.{IsWalked}
 use Rattle.delivery_laws.specs.Deflected.{DeflectionDelivers}
-use Rattle.world_core.specs.declared.outcomes.Outcome.{Outcome}
-use Rattle.world_core.specs.declared.outcomes.Outcome.TheVariants as outcome
+use Rattle.run_record.specs.declared.outcomes.Outcome.{Outcome}
+use Rattle.run_record.specs.declared.outcomes.Outcome.TheVariants as outcome
 
 -- all properties of a run
 pub record IsSound (rules : Rules) (net : Net) (past : Chronicle) : Type 0 where

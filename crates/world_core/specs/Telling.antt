@@ -7,7 +7,7 @@ use Rattle.chronicle.specs.Facts.{Fact, Chronicle, Log, Sent, Took, Fail, Restor
 use Rattle.chronicle.specs.Links.{link}
 use Rattle.chronicle.specs.Walks.{standing}
 use Rattle.node_core.specs.Outputs.{Output, output_by}
-use Rattle.world_core.specs.Walks.{IsPassing}
+use Rattle.run_record.specs.Walks.{IsPassing}
 
 -- the fact is one that u adds behind these facts: an entry, a higher epoch, a table, a control message to a node of the
 -- network, an item over one of its links, queued where the link carries the session, a packet that u passes on, or the

@@ -1,15 +1,13 @@
 //! The network of a world: its nodes, links, control messages, publications and packets.
-use crate::publications::Publication;
-use crate::walks::Walks;
 use control_mail::Mails;
 use link_model::Links;
 use node_core::{Node, OutputList};
 use path_vector::Policy;
+use run_record::{Publication, Walks};
 use std::alloc::Global;
 use std::rc::Rc;
 use topology::Topology;
 
-pub(crate) mod account;
 mod deliveries;
 mod events;
 mod inputs;

@@ -4,7 +4,7 @@ ghost use Rattle.topology.specs.declared.ways.Way.{Way};
 ghost use Rattle.chronicle.specs.Deliveries.{next_delivery};
 ghost use Rattle.chronicle.specs.Run.{run, step};
 ghost use Rattle.topology.specs.declared.limits.TheConstants.{MOST_EVENTS};
-ghost use Rattle.world_core.specs.Effects.{Tells};
+ghost use Rattle.run_record.specs.Effects.{Tells};
 ghost use Rattle.world_core.specs.Fits.{fits};
 ghost use Rattle.world_core.specs.Holding.{AddsEvent, AddsDelivery, Holds, IsNext};
 ghost use Rattle.node_core.specs.NodeLimits.{StopsAt};
@@ -14,11 +14,11 @@ ghost use Rattle.world_core.specs.Stepping.{IsStep};
 
 use crate::laws;
 use crate::network::Network;
-use crate::network::account::Wanted;
-use crate::outcomes::{Outcome, Stop};
 use chronicle::Event;
 use link_model::WaySet;
+use node_core::Stop;
 use path_vector::Policy;
+use run_record::{Outcome, Wanted};
 use topology::limits::MOST_EVENTS;
 use topology::{LimitKind, NoMemory, NodeId};
 

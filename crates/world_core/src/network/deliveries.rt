@@ -12,15 +12,14 @@ ghost use Rattle.world_core.specs.Matching.{Counts, Stands};
 ghost use Rattle.world_core.specs.Places.{HasPlaces};
 ghost use Rattle.world_core.specs.OpenWays.{AreOpen};
 ghost use Rattle.world_core.specs.WaySets.{has_way};
-ghost use Rattle.world_core.specs.Walks.{HasWalks};
+ghost use Rattle.run_record.specs.Walks.{HasWalks};
 
 use crate::network::Network;
-use crate::network::account::Wanted;
-use crate::outcomes::{Outcome, Stop};
 use chronicle::Event;
 use link_model::WaySet;
-use node_core::Input;
+use node_core::{Input, Stop};
 use path_vector::Policy;
+use run_record::{Outcome, Wanted};
 use topology::{LinkState, NodeId, Reason};
 
 impl<P: Policy + Copy> Network<P> {

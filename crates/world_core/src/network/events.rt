@@ -15,14 +15,13 @@ ghost use Rattle.chronicle.specs.Links.{link};
 ghost use Rattle.world_core.specs.Happening.{IsAfterStep, Does, Happens, HappensNext, InAny, IsAsWas, InEachRun, KeepsAllButFlags, KeepsAllButMails, KeepsAllButNodes, MayArrive, Turns};
 ghost use Rattle.world_core.specs.Matching.{AreCrashed, AreMails, AreNodes, Counts, Stands};
 ghost use Rattle.world_core.specs.Places.{HasPlaces};
-ghost use Rattle.world_core.specs.Walks.{HasWalks};
+ghost use Rattle.run_record.specs.Walks.{HasWalks};
 
 use crate::network::Network;
-use crate::network::account::Wanted;
-use crate::outcomes::{Effects, Outcome, Stop};
 use chronicle::Event;
-use node_core::Input;
+use node_core::{Input, Stop};
 use path_vector::Policy;
+use run_record::{Effects, Outcome, Wanted};
 use topology::{LinkState, NodeId, Reason, Session};
 
 /// Whether a link in this state carries the session that is held, where one is.

@@ -12,15 +12,14 @@ ghost use Rattle.world_core.specs.Happening.{IsAfterStep, IsAsWas, MayHand, Stop
 ghost use Rattle.world_core.specs.Matching.{AreMails, AreNodes, Counts, Stands};
 ghost use Rattle.world_core.specs.Places.{HasPlaces};
 ghost use Rattle.chronicle.specs.Walks.{packets};
-ghost use Rattle.world_core.specs.Walks.{AreWalks};
+ghost use Rattle.run_record.specs.Walks.{AreWalks};
 
 use crate::network::Network;
-use crate::network::account::Wanted;
 use crate::network::limits::{counted, is_local, stop_of};
 use crate::network::turns::turn;
-use crate::outcomes::{Effects, Outcome, Stop};
-use node_core::Input;
+use node_core::{Input, Stop};
 use path_vector::Policy;
+use run_record::{Effects, Outcome, Wanted};
 use topology::limits::{MOST_CONTROL, MOST_MARKS, MOST_PACKETS};
 use topology::{LimitKind, NodeId};
 

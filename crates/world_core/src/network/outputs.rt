@@ -16,26 +16,36 @@ ghost use Rattle.node_core.specs.Outputs.{Hands, Output as OutputSeen, output_by
 ghost use Rattle.world_core.specs.Happening.{AreSending, KeepsNodes};
 ghost use Rattle.world_core.specs.Matching.{AreLinks, AreMails, Counts};
 ghost use Rattle.world_core.specs.Telling.{AreTold, IsTold, shown};
-ghost use Rattle.world_core.specs.Walks.{AreWalksBut, IsPassing, still, still_after};
-ghost use Rattle.world_core.specs.declared.outcomes.Effect.TheVariants.{Queued, Lost, Mailed as Shown, Published, Visited, Ended};
+ghost use Rattle.run_record.specs.Walks.{AreWalksBut, IsPassing, still, still_after};
+ghost use Rattle.run_record.specs.declared.outcomes.Effect.TheVariants.{Logged, Queued, Lost, Mailed as Shown, Published, Visited, Ended};
 
 use crate::network::Network;
-use crate::network::account::{Account, Wanted};
-use crate::outcomes::{Effect, Effects};
-use crate::publications::Publication;
-use crate::walks::{Walks, visit_of};
 use consolidator::Mail;
 use control_mail::Mails;
 use epoch_packet::{End, Packet};
 use link_model::Links;
 use node_core::{First, Output};
 use path_vector::Policy;
+use run_record::{Account, Effect, Effects, Publication, Walks, Wanted, visit_of};
 use stable_table::Table;
 use std::alloc::Global;
 use std::collections::VecDeque;
 use std::rc::Rc;
 use topology::{NoMemory, NodeId};
 use trigger_log::Outgoing;
+
+// Tells of an entry. Where no effects are wanted, none is made.
+#[inline(always)]
+fn tell_entry(node: NodeId, index: u32, account: &mut Account) -> Result<(), NoMemory>
+    ensures wanted { OnOk result (account.new.wanted ≡ account.old.wanted) }
+    ensures told { OnOk result (account.old.wanted ≡ Wanted.Effects → account.new.list ≡ account.old.list ++ Logged node index ∷ []) }
+{
+    if !account.wants_effects() {
+        return Ok(());
+    }
+    account.tell(Effect::Logged { node, index })?;
+    Ok(())
+}
 
 // The effect of an item that was sent.
 fn shown(from: NodeId, to: NodeId, queued: bool) -> Effect
@@ -45,6 +55,20 @@ fn shown(from: NodeId, to: NodeId, queued: bool) -> Effect
         return Effect::Queued { from, to };
     }
     Effect::Lost { from, to }
+}
+
+// Tells of an item that was sent. Where no effects are wanted, none is made.
+#[inline(always)]
+fn tell_item(from: NodeId, to: NodeId, queued: bool, account: &mut Account) -> Result<(), NoMemory>
+    ensures wanted { OnOk result (account.new.wanted ≡ account.old.wanted) }
+    ensures told { OnOk result (account.old.wanted ≡ Wanted.Effects →
+        account.new.list ≡ account.old.list ++ (if queued then Queued from to else Lost from to) ∷ []) }
+{
+    if !account.wants_effects() {
+        return Ok(());
+    }
+    account.tell(shown(from, to, queued))?;
+    Ok(())
 }
 
 // Sends an item. The item is queued where the link carries its session, and lost otherwise.
@@ -63,7 +87,7 @@ fn send(
 {
     let to = out.to;
     let queued = links.push(from, to, out.session, out.item)?;
-    account.tell(shown(from, to, queued))?;
+    tell_item(from, to, queued, account)?;
     Ok(())
 }
 
@@ -151,7 +175,7 @@ impl<P: Policy + Copy> Network<P> {
             AreSending (still f away) first (f ∷ past) counts self.new account.new) }
     {
         match output {
-            Output::Logged { index } => account.tell(Effect::Logged { node, index }),
+            Output::Logged { index } => tell_entry(node, index, account),
             Output::Cut { epoch } => account.tell(Effect::Cut { node, epoch }),
             Output::Send(out) => send(node, out, &mut self.links, account),
             Output::Mail(mail) => post(node, mail, &mut self.mails, account),

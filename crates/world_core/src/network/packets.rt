@@ -8,14 +8,13 @@ ghost use Rattle.chronicle.specs.Walks.{ending, standing};
 ghost use Rattle.world_core.specs.Happening.{HappensWhere, InAny};
 ghost use Rattle.world_core.specs.Matching.{AreLinks};
 ghost use Rattle.world_core.specs.Places.{HasPlaces};
-ghost use Rattle.world_core.specs.Walks.{AreWalks, HasWalks};
+ghost use Rattle.run_record.specs.Walks.{AreWalks, HasWalks};
 
 use crate::network::Network;
-use crate::network::account::Wanted;
-use crate::outcomes::{Outcome, Stop};
 use chronicle::Event;
-use node_core::Input;
+use node_core::{Input, Stop};
 use path_vector::Policy;
+use run_record::{Outcome, Wanted};
 use topology::{LinkState, NoMemory, NodeId, PrefixId, Reason};
 
 /// Whether a link in this state is up.

@@ -4,11 +4,11 @@ ghost use Rattle.world_core.specs.Matching.{AreCrashed, AreNodes, Stands};
 ghost use Rattle.world_core.specs.Counting.{no_deliveries};
 
 use crate::network::Network;
-use crate::walks::Walks;
 use control_mail::Mails;
 use link_model::Links;
 use node_core::{Node, OutputList};
 use path_vector::Policy;
+use run_record::Walks;
 use std::alloc::Global;
 use std::rc::Rc;
 use topology::{NoMemory, Topology};

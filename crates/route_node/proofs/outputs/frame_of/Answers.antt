@@ -1,7 +1,7 @@
 use Rattle.std.proofs.Common.{sym, ◌≡◌, ◌∙◌, ◌&&◌, ap, ap₂, subst, true, Some}
 use Rattle.std.specs.Rc.{rc_value}
 use Rattle.topology.proofs.Tests.{and_right}
-use Rattle.node_core.specs.ControlFits.{epoch_fits, value_fits}
+use Rattle.message_fitting.specs.ControlFits.{epoch_fits, value_fits}
 use Rattle.node_core.specs.Outputs.{output_of}
 use Rattle.admission_laws.specs.Handing.{output_fits, table_fits}
 use Rattle.stable_table.specs.Tables.{View}

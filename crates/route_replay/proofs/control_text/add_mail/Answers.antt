@@ -7,7 +7,8 @@ use Rattle.control_mail.specs.Readings.{Letter, at_place}
 use Rattle.consolidator.specs.Seen.{message_seen}
 use Rattle.chronicle.specs.Control.{mailed}
 use Rattle.chronicle.specs.Deliveries.{deliveries}
-use Rattle.route_replay.specs.ControlText.{mail_line, mail_lines}
+use Rattle.view_words.specs.Mails.{mail_line}
+use Rattle.route_replay.specs.ControlText.{mail_lines}
 use Rattle.route_replay.specs.Past.{past_of}
 use Rattle.route_replay.proofs.Gathered.{line_if_made, enumerated_from}
 use Rattle.route_replay.proofs.Shown.{length-mail_lines}

@@ -7,7 +7,7 @@ use Rattle.topology.specs.Lists.{has}
 use Rattle.topology.specs.Net.{Net, neighbours}
 use Rattle.topology.proofs.Sets.{has_at}
 use Rattle.trigger_log.specs.Entries.{Entry}
-use Rattle.route_replay.specs.CutText.{cut_line}
+use Rattle.view_words.specs.Cuts.{cut_line}
 use Rattle.route_replay.specs.Past.{past_of}
 use Rattle.route_replay.proofs.Cuts.{cut_piece, near_piece}
 use Rattle.route_replay.proofs.Gathered.{piece_if_made}

@@ -5,9 +5,9 @@ use Rattle.std.proofs.lemmas.List.{append-nil}
 use Rattle.chronicle.specs.Facts.{Chronicle}
 use Rattle.chronicle.specs.Steps.{Step, Idle, Goes}
 use Rattle.topology.specs.declared.status.Reason.{Reason}
-use Rattle.world_core.specs.declared.outcomes.Effect.{Effect}
-use Rattle.world_core.specs.declared.outcomes.Outcome.TheVariants as outcome
-use Rattle.world_core.specs.Effects.{Tells}
+use Rattle.run_record.specs.declared.outcomes.Effect.{Effect}
+use Rattle.run_record.specs.declared.outcomes.Outcome.TheVariants as outcome
+use Rattle.run_record.specs.Effects.{Tells}
 use Rattle.route_replay.specs.Text.{idle_line, step_text}
 use Rattle.route_replay.proofs.directives.event_line.Goals as goal
 

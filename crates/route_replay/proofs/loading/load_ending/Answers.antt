@@ -2,7 +2,7 @@ use Rattle.std.proofs.Common.{Ok, Err, subst}
 use Rattle.topology.specs.Net.{IsValid}
 use Rattle.path_vector.specs.GaoRexford.{gao_rexford}
 use Rattle.route_replay.specs.declared.ends.RunEnd.TheVariants.{NoMemory, WriteFault, Limit}
-use Rattle.route_replay.specs.LoadNetwork.{load_net}
+use Rattle.load_plan.specs.LoadNetwork.{load_net}
 use Rattle.route_replay.specs.LoadText.{load_events}
 use Rattle.route_replay.proofs.Suits.{load_fits}
 use Rattle.route_replay.proofs.Written.{Known, ends_done, ends_short, ends_cut, ends_limit, ends_unmade, load_runs}

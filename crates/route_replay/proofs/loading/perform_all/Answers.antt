@@ -1,6 +1,6 @@
 use Rattle.std.proofs.Common.{refl, sym, ap, ◌∙◌}
 use Rattle.std.proofs.lemmas.List.{drop_all}
-use Rattle.route_replay.specs.LoadSchedule.{unnumbered}
+use Rattle.load_plan.specs.LoadSchedule.{unnumbered}
 use Rattle.route_replay.specs.Text.{events_of, stop}
 use Rattle.route_replay.proofs.Gathered.{handed_on}
 use Rattle.route_replay.proofs.Performed.{fit_here, events_step, stop_onward, stops_all}

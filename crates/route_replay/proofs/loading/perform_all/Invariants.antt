@@ -1,5 +1,5 @@
 use Rattle.std.proofs.Common.{◌≡◌, drop}
-use Rattle.route_replay.specs.LoadSchedule.{unnumbered}
+use Rattle.load_plan.specs.LoadSchedule.{unnumbered}
 use Rattle.route_replay.specs.Text.{events_of, stop}
 use Rattle.route_replay.proofs.loading.perform_all.Given as goal
 

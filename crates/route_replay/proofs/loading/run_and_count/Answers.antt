@@ -1,4 +1,4 @@
-use Rattle.route_replay.specs.LoadSchedule.{unnumbered}
+use Rattle.load_plan.specs.LoadSchedule.{unnumbered}
 use Rattle.route_replay.proofs.Acts.{handed_runs}
 use Rattle.route_replay.proofs.Written.{runs_halted, runs_said, halted_at}
 use Rattle.route_replay.proofs.loading.run_and_count.Goals as goal

@@ -5,7 +5,8 @@ use Rattle.path_vector.specs.History.{change}
 use Rattle.trigger_log.specs.Entered.{all_entered}
 use Rattle.chronicle.specs.Drops.{dropped}
 use Rattle.chronicle.specs.Logs.{log_of}
-use Rattle.route_replay.specs.LogText.{line_of, entry_line, log_lines}
+use Rattle.view_words.specs.Entries.{line_of}
+use Rattle.route_replay.specs.LogText.{entry_line, log_lines}
 use Rattle.route_replay.specs.Past.{past_of}
 use Rattle.route_replay.proofs.Logs.{at_kept, entries_before, shows_line}
 use Rattle.route_replay.proofs.Shown.{length-log_lines, some_unless}

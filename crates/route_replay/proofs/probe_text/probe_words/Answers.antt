@@ -3,7 +3,8 @@ use Rattle.std.specs.String.{string_bytes}
 use Rattle.topology.specs.Net.{Net}
 use Rattle.deflect_delivery.specs.Progress.{Over}
 use Rattle.route_replay.specs.Gathering.{Breaks, page_view}
-use Rattle.route_replay.specs.ProbeText.{probe_line, probe_text}
+use Rattle.view_words.specs.Probes.{probe_line}
+use Rattle.route_replay.specs.ProbeText.{probe_text}
 use Rattle.route_replay.specs.Past.{past_of}
 use Rattle.route_replay.proofs.Gathered.{handed_on, breaks_nothing, gathers_nothing, words_spilled}
 use Rattle.route_replay.proofs.probe_text.probe_words.Goals as goal

@@ -7,7 +7,8 @@ use Rattle.topology.specs.Net.{Net}
 use Rattle.path_vector.specs.Selection.{best, path_of}
 use Rattle.trigger_log.specs.Entries.{reads}
 use Rattle.chronicle.specs.Logs.{log_of}
-use Rattle.route_replay.specs.RibText.{rib_line, rib_lines}
+use Rattle.view_words.specs.Routes.{rib_line}
+use Rattle.route_replay.specs.RibText.{rib_lines}
 use Rattle.route_replay.specs.Past.{past_of}
 use Rattle.route_replay.proofs.Shown.{length-rib_lines, some_at}
 use Rattle.route_replay.proofs.Gathered.{line_if_made, enumerated}

@@ -1,7 +1,7 @@
 use Rattle.std.proofs.Common.{◌≡◌, count_by, refl, ap, ◌∙◌, arith}
 use Rattle.std.specs.List.{range_with_len}
-use Rattle.world_core.specs.Walks.{walk_of}
-use Rattle.route_replay.specs.LoadSchedule.{load_packets}
+use Rattle.run_record.specs.Walks.{walk_of}
+use Rattle.load_plan.specs.LoadSchedule.{load_packets}
 use Rattle.route_replay.specs.LoadText.{standing_so, walk_stands}
 use Rattle.route_replay.specs.Past.{past_of}
 use Rattle.route_replay.proofs.Counts.{counted_if, few_if}

@@ -1,6 +1,6 @@
 use Rattle.std.proofs.Common.{◌≡◌, ◌≤◌, count_by}
 use Rattle.std.specs.List.{range_with_len}
-use Rattle.world_core.specs.Walks.{walk_of}
+use Rattle.run_record.specs.Walks.{walk_of}
 use Rattle.route_replay.specs.LoadText.{walk_stands}
 use Rattle.route_replay.specs.Past.{past_of}
 use Rattle.route_replay.proofs.summary.packet_count.Given as goal

@@ -2,7 +2,8 @@ use Rattle.std.proofs.Common.{None, ◌++◌, ◌∙◌, ap, sym, subst}
 use Rattle.std.specs.String.{string_bytes}
 use Rattle.std.proofs.lemmas.List.{append-nil}
 use Rattle.route_replay.specs.Gathering.{Breaks}
-use Rattle.route_replay.specs.TablesText.{table_text, unpublished_line}
+use Rattle.route_replay.specs.TablesText.{table_text}
+use Rattle.view_words.specs.Tables.{unpublished_line}
 use Rattle.route_replay.proofs.Gathered.{handed_on, breaks_nothing, words_if_spilled}
 use Rattle.route_replay.proofs.tables_text.add_unpublished.Goals as goal
 

@@ -7,7 +7,7 @@ use Rattle.topology.specs.Lists.{ascending}
 use Rattle.topology.specs.Net.{Net}
 use Rattle.chronicle.specs.Facts.{Chronicle}
 use Rattle.chronicle.specs.Publications.{published}
-use Rattle.world_core.specs.Publications.{PublicationView}
+use Rattle.run_record.specs.Publications.{PublicationView}
 use Rattle.route_replay.specs.Gathering.{Breaks, Gathers, page_view}
 use Rattle.route_replay.specs.TablesText.{last_of, published_for, table_in, table_text, tables_text}
 use Rattle.route_replay.specs.Past.{past_of}

@@ -1,5 +1,5 @@
 use Rattle.std.proofs.Common.{◌≡◌, ◌==◌, take, filter}
-use Rattle.world_core.specs.Publications.{PublicationView}
+use Rattle.run_record.specs.Publications.{PublicationView}
 use Rattle.route_replay.proofs.tables_text.published_in.Given as goal
 
 -- those of the epoch so far are there

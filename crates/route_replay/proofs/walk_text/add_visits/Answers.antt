@@ -1,7 +1,7 @@
 use Rattle.std.proofs.Common.{refl, sym, ◌∙◌, subst}
 use Rattle.std.proofs.lemmas.Option.{slice_get_read}
 use Rattle.route_replay.specs.Gathering.{Breaks}
-use Rattle.route_replay.specs.WalkText.{visit_text}
+use Rattle.view_words.specs.Walks.{visit_text}
 use Rattle.route_replay.proofs.Gathered.{handed_on, gathers_nothing, words_spilled, gathers_step, breaks_step, breaks_short}
 use Rattle.route_replay.proofs.walk_text.add_visits.Goals as goal
 

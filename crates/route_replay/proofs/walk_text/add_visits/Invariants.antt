@@ -1,7 +1,7 @@
 use Rattle.std.proofs.Common.{◌≡◌, take}
 use Rattle.std.specs.List.{flat_map}
 use Rattle.route_replay.specs.Gathering.{Gathers, page_view}
-use Rattle.route_replay.specs.WalkText.{visit_text}
+use Rattle.view_words.specs.Walks.{visit_text}
 use Rattle.route_replay.proofs.walk_text.add_visits.Given as goal
 
 -- the visits so far are gathered

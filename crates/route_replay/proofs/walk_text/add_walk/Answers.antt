@@ -2,7 +2,7 @@ use Rattle.std.proofs.Common.{◌++◌, codes, sym, subst}
 use Rattle.std.specs.List.{flat_map}
 use Rattle.std.specs.String.{string_bytes}
 use Rattle.route_replay.specs.Gathering.{Breaks, page_view}
-use Rattle.route_replay.specs.WalkText.{end_text, visit_text, walk_head}
+use Rattle.view_words.specs.Walks.{end_text, visit_text, walk_head}
 use Rattle.route_replay.proofs.Gathered.{handed_on, breaks_nothing}
 use Rattle.route_replay.proofs.WalkLines.{visits_break, end_breaks, line_gathers}
 use Rattle.route_replay.proofs.walk_text.add_walk.Goals as goal

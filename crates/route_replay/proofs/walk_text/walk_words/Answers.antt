@@ -2,7 +2,8 @@ use Rattle.std.proofs.Common.{◌++◌, ◌∙◌, ap, sym, subst}
 use Rattle.std.specs.String.{string_bytes}
 use Rattle.route_replay.specs.Gathering.{Breaks, page_view}
 use Rattle.route_replay.specs.Past.{past_of}
-use Rattle.route_replay.specs.WalkText.{walk_line, walk_text}
+use Rattle.view_words.specs.Walks.{walk_line}
+use Rattle.route_replay.specs.WalkText.{walk_text}
 use Rattle.route_replay.proofs.Gathered.{handed_on, breaks_nothing, gathers_nothing, words_spilled}
 use Rattle.route_replay.proofs.walk_text.walk_words.Goals as goal
 

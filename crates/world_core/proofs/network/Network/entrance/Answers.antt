@@ -1,6 +1,6 @@
 use Rattle.std.proofs.Common.{Some, None, ◌∙◌, sym, ap}
 use Rattle.std.specs.Prelude.{if◌then◌else◌}
-use Rattle.world_core.proofs.Walking.{same_known, some_copied}
+use Rattle.run_record.proofs.Walking.{same_known, some_copied}
 use Rattle.world_core.proofs.network.Network.entrance.Goals as goal
 
 pub returns-then-is_some : goal.returns-then-is_some

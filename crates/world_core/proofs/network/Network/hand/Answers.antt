@@ -7,11 +7,11 @@ use Rattle.chronicle.specs.Facts.{Log, Raise, Sent, Mail, Publish, Visit, End}
 use Rattle.chronicle.specs.Links.{link}
 use Rattle.chronicle.proofs.Visiting.{same_more, same_now}
 use Rattle.node_core.specs.Outputs.{output_of}
-use Rattle.world_core.specs.declared.outcomes.Effect.TheVariants.{Logged}
+use Rattle.run_record.specs.declared.outcomes.Effect.TheVariants.{Logged}
 use Rattle.world_core.proofs.Handing.{on_ok_by, sent_is, mailed_is, forwarded_is, ended_is, logged_is, cut_is, published_is}
 use Rattle.world_core.proofs.Mailing.{same_mails}
 use Rattle.world_core.proofs.Shown.{told_next, told_sent}
-use Rattle.world_core.proofs.Walking.{walks_stay}
+use Rattle.run_record.proofs.Walking.{walks_stay}
 use Rattle.world_core.proofs.network.Network.hand.Goals as goal
 
 pub returns-in-Send-clause-sending : goal.returns-in-Send-clause-sending
@@ -86,7 +86,7 @@ returns-in-Ended-clause-sending g c =
 
 pub returns-in-Logged-clause-sending : goal.returns-in-Logged-clause-sending
 returns-in-Logged-clause-sending g c =
-    on_ok_by c.tell.result (λ x is away first past counts f told shows was.
+    on_ok_by c.tell_entry.result (λ x is away first past counts f told shows was.
     let net = c.args.self.now.topology.value in
     let u = c.args.node in
     let made = logged_is net u past f c.in-Logged.index told (shows ∙ ap (λ o. output_of o ∷ []) c.in-Logged.is) in
@@ -96,12 +96,12 @@ returns-in-Logged-clause-sending g c =
       are_mails = same_mails net past (Log u made.0 ∷ past) counts c.args.self.now.mails refl (λ v. refl) was.are_mails;
       are_published = was.are_published;
       are_walks = walks_stay net past (Log u made.0 ∷ past) c.args.self.now.walks (same_more (Log u made.0) past past (λ t. t) (same_now past)) was.are_walks;
-      since = told_next first past (Log u made.0) c.args.account.now c.tell.new.self (Logged u c.in-Logged.index) was.since (IfOk-at_ok _ is c.tell.ensures.wanted) (IfOk-at_ok _ is c.tell.ensures.told) (ap (λ n. Logged u n ∷ []) made.2);
+      since = told_next first past (Log u made.0) c.args.account.now c.tell_entry.new.account (Logged u c.in-Logged.index) was.since (IfOk-at_ok _ is c.tell_entry.ensures.wanted) (IfOk-at_ok _ is c.tell_entry.ensures.told) (ap (λ n. Logged u n ∷ []) made.2);
     }))
 
 pub returns-in-Cut-clause-sending : goal.returns-in-Cut-clause-sending
 returns-in-Cut-clause-sending g c =
-    on_ok_by c.tell-in-Cut.result (λ x is away first past counts f told shows was.
+    on_ok_by c.tell.result (λ x is away first past counts f told shows was.
     let net = c.args.self.now.topology.value in
     let u = c.args.node in
     let e = c.in-Cut.epoch in
@@ -111,7 +111,7 @@ returns-in-Cut-clause-sending g c =
       are_mails = same_mails net past (Raise u e ∷ past) counts c.args.self.now.mails refl (λ v. refl) was.are_mails;
       are_published = was.are_published;
       are_walks = walks_stay net past (Raise u e ∷ past) c.args.self.now.walks (same_more (Raise u e) past past (λ t. t) (same_now past)) was.are_walks;
-      since = told_next first past (Raise u e) c.args.account.now c.tell-in-Cut.new.self _ was.since (IfOk-at_ok _ is c.tell-in-Cut.ensures.wanted) (IfOk-at_ok _ is c.tell-in-Cut.ensures.told) refl;
+      since = told_next first past (Raise u e) c.args.account.now c.tell.new.self _ was.since (IfOk-at_ok _ is c.tell.ensures.wanted) (IfOk-at_ok _ is c.tell.ensures.told) refl;
     }))
 
 pub returns-in-Published-clause-sending : goal.returns-in-Published-clause-sending

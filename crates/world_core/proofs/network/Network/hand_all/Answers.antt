@@ -5,7 +5,7 @@ use Rattle.node_core.specs.Firsts.{seen_first}
 use Rattle.node_core.specs.Outputs.{output_of}
 use Rattle.world_core.specs.Happening.{AreSending}
 use Rattle.world_core.specs.Telling.{AreTold}
-use Rattle.world_core.specs.Walks.{still_after}
+use Rattle.run_record.specs.Walks.{still_after}
 use Rattle.world_core.proofs.Handing.{hands_shown}
 use Rattle.world_core.proofs.Shown.{keeps_on, keeps_with, sends_with, told_whole}
 use Rattle.world_core.proofs.network.Network.hand_all.Goals as goal

@@ -7,7 +7,7 @@ use Rattle.node_core.specs.Outputs.{Logged, Send}
 use Rattle.node_core.proofs.Together.{entry_shown}
 use Rattle.world_core.specs.Happening.{AreSending}
 use Rattle.world_core.specs.Telling.{IsTold}
-use Rattle.world_core.specs.Walks.{still_after}
+use Rattle.run_record.specs.Walks.{still_after}
 use Rattle.world_core.proofs.Handing.{handed_next, happen_last, none_left, taken_one}
 use Rattle.world_core.proofs.Returning.{still_last}
 use Rattle.world_core.proofs.Shown.{handed_first, keeps_on, sends_with}

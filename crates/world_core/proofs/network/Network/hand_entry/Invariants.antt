@@ -6,7 +6,7 @@ use Rattle.node_core.specs.Outputs.{Logged, Send}
 use Rattle.world_core.specs.Happening.{AreSending, KeepsNodes}
 use Rattle.world_core.specs.Matching.{Counts}
 use Rattle.world_core.specs.Telling.{AreTold, shown}
-use Rattle.world_core.specs.Walks.{still_after}
+use Rattle.run_record.specs.Walks.{still_after}
 use Rattle.world_core.proofs.network.Network.hand_entry.Given as goal
 
 abbrev pub invariant-loop-out : goal.invariant-loop-out

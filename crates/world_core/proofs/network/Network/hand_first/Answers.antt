@@ -5,7 +5,7 @@ use Rattle.node_core.specs.Firsts.{seen_first}
 use Rattle.node_core.specs.Outputs.{Logged, output_of}
 use Rattle.world_core.specs.Happening.{AreSending}
 use Rattle.world_core.specs.Telling.{shown}
-use Rattle.world_core.specs.Walks.{still_after}
+use Rattle.run_record.specs.Walks.{still_after}
 use Rattle.world_core.proofs.Handing.{handed_none}
 use Rattle.world_core.proofs.Shown.{handed_first}
 use Rattle.world_core.proofs.network.Network.hand_first.Goals as goal

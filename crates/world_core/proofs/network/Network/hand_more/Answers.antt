@@ -4,7 +4,7 @@ use Rattle.chronicle.specs.Facts.{Chronicle, happen}
 use Rattle.node_core.specs.Outputs.{output_of}
 use Rattle.world_core.specs.Happening.{AreSending}
 use Rattle.world_core.specs.Telling.{IsTold}
-use Rattle.world_core.specs.Walks.{still_after}
+use Rattle.run_record.specs.Walks.{still_after}
 use Rattle.world_core.proofs.Handing.{handed_next, happen_last, none_left, taken_one}
 use Rattle.world_core.proofs.Returning.{still_last}
 use Rattle.world_core.proofs.Shown.{keeps_on, sends_with}

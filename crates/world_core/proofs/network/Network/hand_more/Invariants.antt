@@ -5,7 +5,7 @@ use Rattle.node_core.specs.Outputs.{Output, output_of}
 use Rattle.world_core.specs.Happening.{AreSending, KeepsNodes}
 use Rattle.world_core.specs.Matching.{Counts}
 use Rattle.world_core.specs.Telling.{AreTold, shown}
-use Rattle.world_core.specs.Walks.{still_after}
+use Rattle.run_record.specs.Walks.{still_after}
 use Rattle.world_core.proofs.network.Network.hand_more.Given as goal
 
 abbrev pub invariant-loop-output : goal.invariant-loop-output

@@ -3,7 +3,7 @@ use Rattle.chronicle.specs.Inputs as input
 use Rattle.chronicle.specs.declared.events.Event.TheVariants.{Hop}
 use Rattle.world_core.proofs.AfterSteps.{idle}
 use Rattle.world_core.proofs.Handed.{passes_on, goes_on}
-use Rattle.world_core.proofs.Walking.{may_go}
+use Rattle.run_record.proofs.Walking.{may_go}
 use Rattle.world_core.proofs.network.Network.hop.Goals as goal
 
 pub take-requires : goal.take-requires

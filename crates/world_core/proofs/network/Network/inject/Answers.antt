@@ -4,7 +4,7 @@ use Rattle.chronicle.specs.Inputs as input
 use Rattle.chronicle.specs.declared.events.Event.TheVariants.{Inject}
 use Rattle.world_core.proofs.AfterSteps.{idle}
 use Rattle.world_core.proofs.Handed.{passes_on, enters, known_stays}
-use Rattle.world_core.proofs.Walking.{not_some, same_known, some_copied}
+use Rattle.run_record.proofs.Walking.{not_some, same_known, some_copied}
 use Rattle.world_core.proofs.network.Network.inject.Goals as goal
 
 pub returns-then-is_some : goal.returns-then-is_some

@@ -1,9 +1,9 @@
 use Rattle.std.proofs.Common.{[], subst, sym}
 use Rattle.world_core.specs.Matching.{AreCrashed}
-use Rattle.world_core.specs.Walks.{AreWalks}
+use Rattle.run_record.specs.Walks.{AreWalks}
 use Rattle.world_core.proofs.Fresh.{fresh_links, fresh_counted}
 use Rattle.world_core.proofs.Mailing.{fresh_mails}
-use Rattle.world_core.proofs.Walking.{fresh_walks}
+use Rattle.run_record.proofs.Walking.{fresh_walks}
 use Rattle.world_core.proofs.network.Network.new.Goals as goal
 
 pub returns-clause-stands : goal.returns-clause-stands

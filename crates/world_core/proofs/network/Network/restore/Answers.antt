@@ -10,7 +10,7 @@ use Rattle.world_core.proofs.AfterSteps.{did, idle, restore_counted, restores_up
 use Rattle.world_core.proofs.Mailing.{same_mails}
 use Rattle.world_core.proofs.Nodes.{same_nodes}
 use Rattle.world_core.proofs.Steady.{steady_flags}
-use Rattle.world_core.proofs.Walking.{walks_stay}
+use Rattle.run_record.proofs.Walking.{walks_stay}
 use Rattle.world_core.proofs.network.Network.restore.Goals as goal
 
 pub returns-then-not-restore-clause-comes : goal.returns-then-not-restore-clause-comes

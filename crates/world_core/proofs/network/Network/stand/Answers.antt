@@ -2,7 +2,7 @@ use Rattle.std.proofs.Common.{Some, None, ◌∙◌, sym, ap, is_some}
 use Rattle.std.specs.Prelude.{if◌then◌else◌}
 use Rattle.chronicle.specs.Run.{stands_at}
 use Rattle.chronicle.specs.Walks.{ending}
-use Rattle.world_core.proofs.Walking.{not_found, stands_there}
+use Rattle.run_record.proofs.Walking.{not_found, stands_there}
 use Rattle.world_core.proofs.network.Network.stand.Goals as goal
 
 pub returns-in_err-journey : goal.returns-in_err-journey

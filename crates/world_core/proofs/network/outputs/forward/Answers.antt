@@ -1,7 +1,7 @@
 use Rattle.std.proofs.Common.{[], ◌∷◌, ◌++◌, ◌∙◌, ap, ap₂}
 use Rattle.epoch_packet.specs.declared.packets.Packet.{Packet}
 use Rattle.chronicle.specs.Walks.{visit_of}
-use Rattle.world_core.specs.declared.outcomes.Effect.TheVariants.{Visited}
+use Rattle.run_record.specs.declared.outcomes.Effect.TheVariants.{Visited}
 use Rattle.world_core.proofs.network.outputs.forward.Goals as goal
 
 pub returns-clause-done : goal.returns-clause-done

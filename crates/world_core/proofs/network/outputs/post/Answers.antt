@@ -1,7 +1,7 @@
 use Rattle.std.proofs.Common.{[], ◌∷◌, ◌++◌, ◌∙◌, ap}
 use Rattle.consolidator.specs.Seen.{message_seen}
 use Rattle.control_mail.specs.Acts.{Posts}
-use Rattle.world_core.specs.declared.outcomes.Effect.TheVariants.{Mailed}
+use Rattle.run_record.specs.declared.outcomes.Effect.TheVariants.{Mailed}
 use Rattle.world_core.proofs.Mailing.{posted, posted_number}
 use Rattle.world_core.proofs.network.outputs.post.Goals as goal
 

@@ -1,0 +1,4 @@
+pub mod ListedMarks
+pub mod Ordering
+pub mod Totals
+pub mod TriggerLists

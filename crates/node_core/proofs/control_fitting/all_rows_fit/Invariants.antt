@@ -1,9 +1,0 @@
-use Rattle.std.proofs.Common.{◌≡◌, drop, map}
-use Rattle.std.specs.List.{list_all}
-use Rattle.incomplete_closure.specs.Seen.{row_seen}
-use Rattle.node_core.specs.ControlFits.{row_fits}
-use Rattle.node_core.proofs.control_fitting.all_rows_fit.Given as goal
-
--- those so far fit
-abbrev pub invariant-loop-row : goal.invariant-loop-row
-invariant-loop-row l = list_all (row_fits l.topology) (map row_seen (drop l.row-index l.rows)) ≡ list_all (row_fits l.topology) (map row_seen l.rows)

@@ -1,7 +1,0 @@
-use Rattle.std.proofs.Common.{◌+◌, ◌≡◌, take}
-use Rattle.node_core.specs.Counted.{row_marks}
-use Rattle.node_core.proofs.counts.less_pending.Given as goal
-
--- what is left after those so far
-abbrev pub invariant-loop-row : goal.invariant-loop-row
-invariant-loop-row l = l.left + row_marks (take l.row-index l.rows) ≡ l.fn.number

@@ -1,9 +1,0 @@
-use Rattle.std.proofs.Common.{◌≡◌, ◌++◌, take}
-use Rattle.std.specs.Fmt.{decimal}
-use Rattle.std.specs.String.{string_bytes}
-use Rattle.route_replay.specs.Lines.{further}
-use Rattle.route_replay.proofs.closure_text.further_nodes.Given as goal
-
--- the nodes so far are written
-abbrev pub invariant-loop-node : goal.invariant-loop-node
-invariant-loop-node l = string_bytes l.out ≡ string_bytes l.initial.out ++ further decimal (take l.node-index l.nodes)

@@ -1,6 +1,0 @@
-use Rattle.std.proofs.Common.{◌≡◌}
-use Rattle.route_replay.specs.LoadNetwork.{drafted}
-use Rattle.route_replay.proofs.load_network.add_prefixes.Given as goal
-
-abbrev pub invariant-loop-place : goal.invariant-loop-place
-invariant-loop-place l = l.topology ≡ drafted 24 3 l.initial.topology.links l.place

@@ -1,8 +1,0 @@
-use Rattle.std.proofs.Common.{◌≡◌, ◌++◌, take}
-use Rattle.std.specs.String.{string_bytes}
-use Rattle.route_replay.specs.LogText.{further_nodes}
-use Rattle.route_replay.proofs.log_text.further_words.Given as goal
-
--- the nodes so far are written
-abbrev pub invariant-loop-node : goal.invariant-loop-node
-invariant-loop-node l = string_bytes l.out ≡ string_bytes l.initial.out ++ further_nodes (take l.node-index l.nodes)

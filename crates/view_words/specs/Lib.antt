@@ -1,0 +1,10 @@
+pub mod Cuts
+pub mod Entries
+pub mod Lines
+pub mod Mails
+pub mod Probes
+pub mod Reasons
+pub mod Routes
+pub mod Tables
+pub mod Values
+pub mod Walks
