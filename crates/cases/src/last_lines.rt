@@ -1,7 +1,8 @@
 //! Tables of last lines. A row has the fault of a line, a colon, and the line. Each line is put after the
 //! schedule in turn.
-use crate::outcome::{Outcome, end_line, outcome_of};
+use crate::outcome::{end_line, outcome_of};
 use anyhow::Result;
+use case_verdicts::Outcome;
 use std::alloc::{AllocError, Global};
 
 // How many lines the front has.

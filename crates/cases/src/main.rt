@@ -3,7 +3,6 @@
 //! A case is a few files in the folder where this program runs. docs/ARCHITECTURE.md says how to add one.
 #![tactic(auto)]
 
-mod difference;
 mod files;
 mod last_lines;
 mod outcome;
@@ -12,10 +11,11 @@ mod verdict;
 mod wanted;
 
 use anyhow::Result;
+use case_verdicts::Verdict;
 use std::io;
 use std::process::ExitCode;
 use std::rt::Files;
-use verdict::{Verdict, verdict_of};
+use verdict::verdict_of;
 
 // Runs the case and writes its line. Returns whether it passed.
 fn passes<R: Files + Print + AllocGlobal>(rt: &R, name: &str) -> Result<bool> {

@@ -1,6 +1,7 @@
 //! The outcome of a run over memory.
 use acceptor_journal::MemDisk;
 use anyhow::Result;
+use case_verdicts::Outcome;
 use route_io::{MemLink, MemSink, MemSource};
 use routing_commands::run::run;
 use std::alloc::{AllocError, Global};
@@ -13,17 +14,6 @@ const LINK_ROOM: usize = 16_384;
 
 // How many bytes of notes a run may write; more than the longest line.
 const NOTE_ROOM: usize = 256;
-
-/// The outcome of a run.
-#[derive(Drop)]
-pub struct Outcome {
-    /// The exit code of the process, followed by the notes.
-    pub end: String,
-    /// What was written.
-    pub text: String,
-    /// The bytes that were sent over the link.
-    pub answers: Vec<u8>,
-}
 
 fn zeros(alloc: Global, count: usize) -> Result<Vec<u8>, AllocError> {
     vec![in alloc; 0; count]

@@ -1,25 +1,12 @@
-//! One case: what its files ask for, the outcome of its run, and whether it is the expected one.
-ghost use Rattle.std.specs.Prelude.{IfOk};
-ghost use Rattle.cases.specs.Judging.{Judges};
-
-use crate::difference::{difference, is_same, part_difference};
+//! One case: what its files ask for, the outcome of its run, and the verdict on it.
 use crate::files::{bytes_of, text_of, text_or};
 use crate::last_lines::first_fault;
-use crate::outcome::{Outcome, outcome_of};
+use crate::outcome::outcome_of;
 use crate::spelled::bytes_spelled;
-use crate::wanted::{Wanted, wanted_of};
+use crate::wanted::wanted_of;
 use anyhow::{Result, bail};
-use std::alloc::{AllocError, Global};
+use case_verdicts::{Verdict, verdict_on};
 use std::rt::Files;
-
-/// The verdict on a case.
-#[derive(Drop)]
-pub enum Verdict {
-    /// The outcome is what is wanted.
-    Passed,
-    /// The outcome is different; this is the first difference.
-    Failed(String),
-}
 
 // The words of the case, one on each line; `replay` if it has no file of words.
 fn words_of<R: Files + AllocGlobal>(rt: &R, name: &str) -> Result<Vec<String>> {
@@ -42,24 +29,6 @@ fn source_of<R: Files + AllocGlobal>(rt: &R, name: &str) -> Result<Vec<u8>> {
         bail!("no such case");
     }
     Ok(Vec::new(rt.alloc()))
-}
-
-// The verdict on an outcome.
-fn verdict_on(alloc: Global, wanted: &Wanted, came: &Outcome) -> Result<Verdict, AllocError>
-    ensures { IfOk result (λ verdict. Judges verdict wanted.now came.now) }
-{
-    match wanted {
-        Wanted::Whole(wanted) => {
-            if is_same(wanted, came) {
-                return Ok(Verdict::Passed);
-            }
-            Ok(Verdict::Failed(difference(alloc, wanted, came)?))
-        }
-        Wanted::Lines(part) => match part_difference(alloc, part, came)? {
-            Some(difference) => Ok(Verdict::Failed(difference)),
-            None => Ok(Verdict::Passed),
-        },
-    }
 }
 
 /// Runs the case of this name.

@@ -1,29 +1,9 @@
 //! The wanted outcome of a case.
 use crate::files::{text_of, text_or};
-use crate::outcome::Outcome;
 use crate::spelled::bytes_spelled;
 use anyhow::Result;
+use case_verdicts::{Outcome, Part, Wanted};
 use std::rt::Files;
-
-/// The wanted outcome of a case.
-#[derive(Drop)]
-pub enum Wanted {
-    /// Exactly this outcome.
-    Whole(Outcome),
-    /// This end, and a text with these lines.
-    Lines(Part),
-}
-
-/// What is known of a run whose text nobody wrote down.
-#[derive(Drop)]
-pub struct Part {
-    /// How the run must end.
-    pub end: String,
-    /// Lines that must stand in the text, in this order.
-    pub lines: String,
-    /// How many lines the text must have, if that is known.
-    pub count: Option<usize>,
-}
 
 // How many lines the text of the case must have, if a file says it.
 fn count_of<R: Files + AllocGlobal>(rt: &R, name: &str) -> Result<Option<usize>> {

@@ -1,8 +1,4 @@
 //! Runs over memory: words, notes, room, and the failure of each side in turn.
-mod kept_nodes;
-mod over_links;
-mod waiting_peer;
-
 use acceptor_journal::MemDisk;
 use itoa::Buffer;
 use route_io::{MemLink, MemSink, MemSource, PlainLink, PlainSink, PlainSource};

@@ -1,7 +1,7 @@
 use Rattle.std.proofs.Common.{subst, refl}
 use Rattle.topology.specs.Net.{Net}
 use Rattle.route_node.specs.Restored.{IsRestored}
-use Rattle.command_calls.proofs.tests.kept_nodes.status_by_calls.Goals as goal
+use Rattle.link_calls.proofs.tests.kept_nodes.status_by_calls.Goals as goal
 
 -- the node was restarted, so it may answer
 pub serve_kept-requires : goal.serve_kept-requires

@@ -1,11 +1,11 @@
 -- When a case passes.
 use Rattle.std.specs.Prelude.{◌≡◌}
 use Rattle.std.specs.String.{string_bytes}
-use Rattle.cases.specs.declared.outcome.Outcome.{Outcome}
-use Rattle.cases.specs.declared.wanted.Wanted.{Wanted}
-use Rattle.cases.specs.declared.wanted.Wanted.TheVariants.{Whole, Lines}
-use Rattle.cases.specs.declared.verdict.Verdict.{Verdict}
-use Rattle.cases.specs.declared.verdict.Verdict.TheVariants.{Passed, Failed}
+use Rattle.case_verdicts.specs.declared.outcomes.Outcome.{Outcome}
+use Rattle.case_verdicts.specs.declared.outcomes.Wanted.{Wanted}
+use Rattle.case_verdicts.specs.declared.outcomes.Wanted.TheVariants.{Whole, Lines}
+use Rattle.case_verdicts.specs.declared.verdicts.Verdict.{Verdict}
+use Rattle.case_verdicts.specs.declared.verdicts.Verdict.TheVariants.{Passed, Failed}
 
 -- the two runs ended with the same line, wrote the same text, and sent the same bytes over their links
 pub record IsSame (wanted came : Outcome) : Type 0 where

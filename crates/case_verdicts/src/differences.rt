@@ -1,13 +1,12 @@
 //! Compares a run with what is wanted, and names the first difference.
 ghost use Rattle.std.specs.Prelude.{◌↔◌, IsTrue};
-ghost use Rattle.cases.specs.Judging.{IsSame};
+ghost use Rattle.case_verdicts.specs.Judging.{IsSame};
 
-use crate::outcome::Outcome;
-use crate::wanted::Part;
+use crate::{Outcome, Part};
 use std::alloc::{AllocError, Global};
 
 /// Whether the run is exactly what is wanted.
-pub fn is_same(wanted: &Outcome, came: &Outcome) -> bool
+pub(crate) fn is_same(wanted: &Outcome, came: &Outcome) -> bool
     ensures { IsTrue result ↔ IsSame wanted.now came.now }
 {
     wanted.end == came.end && wanted.text == came.text && wanted.answers == came.answers
@@ -54,7 +53,11 @@ fn end_difference(alloc: Global, wanted: &str, came: &str) -> Result<String, All
 }
 
 /// The first difference between the run and what is wanted.
-pub fn difference(alloc: Global, wanted: &Outcome, came: &Outcome) -> Result<String, AllocError> {
+pub(crate) fn difference(
+    alloc: Global,
+    wanted: &Outcome,
+    came: &Outcome,
+) -> Result<String, AllocError> {
     if wanted.end != came.end {
         return end_difference(alloc, wanted.end.as_str(), came.end.as_str());
     }
@@ -76,7 +79,7 @@ fn missing<'a>(text: &str, lines: &'a str) -> Option<&'a str> {
 }
 
 /// The first difference between the run and what is known of what is wanted.
-pub fn part_difference(
+pub(crate) fn part_difference(
     alloc: Global,
     part: &Part,
     came: &Outcome,
