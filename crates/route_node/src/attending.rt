@@ -43,7 +43,11 @@ fn network_of<I: Source>(alloc: Global, source: &mut I) -> Result<Rc<Topology>, 
     };
     match Rc::new(alloc, topology) {
         Ok(network) => Ok(network),
-        Err(_) => Err(Status::NoMemory),
+        Err(full) => {
+            // as a call, the drop is proved once for each type, and its collections are not opened here
+            drop(full);
+            Err(Status::NoMemory)
+        }
     }
 }
 

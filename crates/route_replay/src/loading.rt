@@ -10,15 +10,14 @@ ghost use Rattle.route_replay.specs.Text.{course, stop, task_of};
 
 use crate::directives::{control_all, drain, hop};
 use crate::ends::RunEnd;
-use crate::runner::{AtEnd, end};
+use crate::runner::{AtEnd, end, first_world};
 use crate::summary::write_summary;
 use crate::tasks::{Task, task_of};
 use load_plan::{Load, load_of};
-use path_vector::{GaoRexford, Policy};
+use path_vector::Policy;
 use route_io::Sink;
 use schedule_file::Directive;
 use std::alloc::Global;
-use std::rc::Rc;
 use topology::Status;
 use world_core::{Stop, World};
 
@@ -88,10 +87,7 @@ fn run_load<O: Sink>(alloc: Global, load: Load, sink: &mut O, at_end: AtEnd) -> 
         topology,
         directives,
     } = load;
-    let Ok(topology) = Rc::new(alloc, topology) else {
-        return Err(RunEnd::NoMemory);
-    };
-    let Ok(world) = World::new(alloc, topology, GaoRexford) else {
+    let Ok(world) = first_world(alloc, topology) else {
         return Err(RunEnd::NoMemory);
     };
     run_and_count(alloc, world, &directives, sink, at_end)

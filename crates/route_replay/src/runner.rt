@@ -1,5 +1,5 @@
 //! Runs a schedule and writes its text.
-ghost use Rattle.std.specs.Prelude.{[]};
+ghost use Rattle.std.specs.Prelude.{◌≡◌, [], IfOk};
 ghost use Rattle.path_vector.specs.GaoRexford.{gao_rexford};
 ghost use Rattle.route_replay.specs.Text.{stop, text, texts};
 ghost use Rattle.route_replay.specs.Running.{AllFitting, Runs};
@@ -15,7 +15,7 @@ use std::alloc::Global;
 use std::mem;
 use std::rc::Rc;
 use topology::limits::MOST_BYTES;
-use topology::{LimitKind, Status};
+use topology::{LimitKind, NoMemory, Status, Topology};
 use world_core::World;
 
 /// What becomes of the memory of a world that has run to its end.
@@ -59,6 +59,16 @@ pub fn run_lines<P: Policy + Copy, O: Sink>(
     Ok(())
 }
 
+/// The world of a network before its first event.
+pub(crate) fn first_world(alloc: Global, topology: Topology) -> Result<World<GaoRexford>, NoMemory>
+    ensures net { IfOk result (λ world. world.net ≡ topology) }
+    ensures events { IfOk result (λ world. world.events ≡ []) }
+{
+    let topology = Rc::new(alloc, topology)?;
+    let world = World::new(alloc, topology, GaoRexford)?;
+    Ok(world)
+}
+
 // Runs a schedule in a new world.
 fn run_schedule<O: Sink>(
     alloc: Global,
@@ -74,10 +84,7 @@ fn run_schedule<O: Sink>(
         (texts gao_rexford schedule.topology [] schedule.lines.items) }
 {
     let Schedule { topology, lines } = schedule;
-    let Ok(topology) = Rc::new(alloc, topology) else {
-        return Err(RunEnd::NoMemory);
-    };
-    let Ok(world) = World::new(alloc, topology, GaoRexford) else {
+    let Ok(world) = first_world(alloc, topology) else {
         return Err(RunEnd::NoMemory);
     };
     run_lines(alloc, world, &lines, sink, at_end)
